@@ -1,0 +1,37 @@
+-- What a contract sees of a device: its bytes, where it tells them, and its count of faults.
+use Rattle.std.specs.Prelude.{ℕ, ◌≡◌, ◌<◌, ◌-◌, ◌^◌, ◌⊎◌, List, Option}
+use Rattle.std.specs.Io.KnownBytes.{Appends, Consumes, Keeps}
+
+-- The bytes that a source will still give, or None where it doesn't tell, and how many of its calls have failed.
+pub record SourceState : Type 0 where
+  pub left : Option (List ℕ)
+  pub faults : ℕ
+
+-- The bytes that a sink was given, or None where it doesn't tell, and how many of its calls have failed.
+pub record SinkState : Type 0 where
+  pub written : Option (List ℕ)
+  pub faults : ℕ
+
+-- A count of faults has risen. A count that stands at its greatest value may have counted more.
+abbrev pub HasRisen : ℕ → ℕ → Type 0
+HasRisen before after = (before < after) ⊎ ((before ≡ after) × (after ≡ 2 ^ 64 - 1))
+
+-- Calls of a source that didn't fail took these bytes from the front of what was left.
+pub record Gives (before : SourceState) (bytes : List ℕ) (after : SourceState) : Type 0 where
+  pub given : Consumes before.left after.left bytes
+  pub unfailed : after.faults ≡ before.faults
+
+-- A call of a source failed, and nothing was taken from it.
+pub record Fails (before after : SourceState) : Type 0 where
+  pub kept : Keeps before.left after.left
+  pub risen : HasRisen before.faults after.faults
+
+-- Calls of a sink that didn't fail put these bytes at the end of what was written.
+pub record Takes (before : SinkState) (bytes : List ℕ) (after : SinkState) : Type 0 where
+  pub taken : Appends before.written after.written bytes
+  pub unfailed : after.faults ≡ before.faults
+
+-- A call of a sink failed, and nothing was written by it.
+pub record SinkFails (before after : SinkState) : Type 0 where
+  pub kept : Keeps before.written after.written
+  pub risen : HasRisen before.faults after.faults
