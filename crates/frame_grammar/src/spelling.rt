@@ -1,0 +1,54 @@
+//! How payloads are spelt.
+
+ghost use Rattle.std.specs.Prelude.{◌≡◌, ◌+◌, nat_lt, if◌then◌else◌, MatchOption, Ok, Err, None, Some};
+ghost use Rattle.frame_model.specs.Spelling.{Fits, head_of, obstacle, tail_of};
+
+use crate::affix::Affix;
+use crate::line_feed::{LINE_FEED, first_line_feed};
+use frame_model::{BadKind, Framing};
+
+/// Whether a payload has a frame. The refusal is always `Unspellable`, at the index of the first byte for which it has none:
+/// a line feed in a line, and the first byte that is one too many for the head of a counted frame.
+pub fn can_spell(framing: Framing, payload: &[u8]) -> Result<(), BadKind>
+    ensures { MatchOption (obstacle framing payload.now) (result ≡ Ok tt) (λ at. result ≡ Err (BadKind.Unspellable at)) }
+{
+    let len = payload.len() as u64;
+    let obstacle = match framing {
+        Framing::Len4 => first_past(len, u64::from(u32::MAX)),
+        Framing::Len2 => first_past(len, u64::from(u16::MAX)),
+        Framing::Line => first_line_feed(payload).map(|at| at as u64),
+    };
+    match obstacle {
+        Some(at) => Err(BadKind::Unspellable { at }),
+        None => Ok(()),
+    }
+}
+
+/// The bytes before a payload of `len` bytes in its frame.
+pub fn spell_head(framing: Framing, len: u64) -> Affix
+    requires { Fits framing len }
+    ensures { result ≡ head_of framing len }
+{
+    match framing {
+        Framing::Len4 => Affix::of_four((len as u32).to_be_bytes()),
+        Framing::Len2 => Affix::of_two((len as u16).to_be_bytes()),
+        Framing::Line => Affix::empty(),
+    }
+}
+
+/// The bytes behind a payload in its frame.
+pub fn spell_tail(framing: Framing) -> Affix
+    ensures { result ≡ tail_of framing }
+{
+    match framing {
+        Framing::Len4 | Framing::Len2 => Affix::empty(),
+        Framing::Line => Affix::of_one(LINE_FEED),
+    }
+}
+
+/// The index of the first byte past the greatest length, where a payload is longer.
+fn first_past(len: u64, greatest: u64) -> Option<u64>
+    ensures { result ≡ (if nat_lt len (greatest + 1) then None else Some greatest) }
+{
+    if len <= greatest { None } else { Some(greatest) }
+}

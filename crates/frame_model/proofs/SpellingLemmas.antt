@@ -1,0 +1,31 @@
+-- The frame that is computed is the frame in words.
+use Rattle.std.proofs.Common.{◌≡◌, ◌≢◌, ◌<◌, ◌^◌, ◌-◌, ℕ, List, length, get_or, refl, sym, ◌∙◌, arith, inl, inr}
+use Rattle.std.specs.Prelude.{IsNone, position, slice_index}
+use Rattle.std.specs.List.{position_or_len}
+use Rattle.std.proofs.lemmas.Bool.{cases_lt, lt-ltb, le-ltb, eqb-true, eqb-false}
+use Rattle.std.proofs.lemmas.List.{append-nil}
+use Rattle.std.proofs.lemmas.List.Sums.{fails_before_first, passes_at_first}
+use Rattle.frame_model.specs.declared.framing.Framing.{Framing}
+use Rattle.frame_model.specs.declared.framing.Framing.TheVariants.{Len4, Len2, Line}
+use Rattle.frame_model.specs.Spelling.{is_line_feed, obstacle, spelling, Spells}
+use Rattle.frame_model.proofs.LongestLemmas.{below_limit, no_line_feed_len}
+
+clean_has_none : (p : List ℕ) → ((k : ℕ) → k < length p → slice_index p k ≢ 10) → IsNone (position is_line_feed p)
+clean_has_none p clean =
+    elim (cases_lt (position_or_len is_line_feed p) (length p)) [
+      | inl lt ↦ absurd (clean (position_or_len is_line_feed p) lt (eqb-true _ 10 (passes_at_first is_line_feed p 0 lt)))
+      | inr ge ↦ rw (le-ltb (position_or_len is_line_feed p) (length p) ge) refl
+    ]
+
+none_is_clean : (p : List ℕ) → IsNone (position is_line_feed p) → (k : ℕ) → k < length p → slice_index p k ≢ 10
+none_is_clean p none k lt = eqb-false (get_or p k 0) 10 (fails_before_first is_line_feed p k 0 (omega (arith, no_line_feed_len p none, lt)))
+
+pub spelt : (f : Framing) (p bytes : List ℕ) → Spells f p bytes → IsNone (obstacle f p) × (bytes ≡ spelling f p)
+spelt Len4 p bytes s = (rw (lt-ltb (length p) (2 ^ 32) s.0) refl, s.1 ∙ sym (append-nil _))
+spelt Len2 p bytes s = (rw (lt-ltb (length p) (2 ^ 16) s.0) refl, s.1 ∙ sym (append-nil _))
+spelt Line p bytes s = (clean_has_none p s.0, s.1)
+
+pub spells : (f : Framing) (p : List ℕ) → IsNone (obstacle f p) → Spells f p (spelling f p)
+spells Len4 p none = (below_limit (length p) (2 ^ 32) (2 ^ 32 - 1) none, append-nil _)
+spells Len2 p none = (below_limit (length p) (2 ^ 16) (2 ^ 16 - 1) none, append-nil _)
+spells Line p none = (none_is_clean p none, refl)

@@ -1,0 +1,111 @@
+-- How an input is cut into frames.
+use Rattle.std.specs.Prelude.{ℕ, zero, suc, ◌≡◌, ◌+◌, ◌≤◌, ◌<◌, nat_lt, nat_le, ◌&&◌, Bool, true, false, List, [], ◌∷◌, ◌++◌, length, take, drop, slice_index, IsNone, if◌then◌else◌}
+use Rattle.std.specs.List.{position_or_len, AllByRecursion}
+use Rattle.std.specs.Int.{Width, w16, w32, byte_len, from_be_bytes}
+use Rattle.frame_model.specs.declared.framing.Framing.{Framing}
+use Rattle.frame_model.specs.declared.framing.Framing.TheVariants.{Len4, Len2, Line}
+use Rattle.frame_model.specs.declared.framing.BadKind.{BadKind}
+use Rattle.frame_model.specs.declared.framing.BadKind.TheVariants.{TooBig}
+use Rattle.frame_model.specs.Spelling.{is_line_feed, obstacle, text}
+
+-- What stands at the front of an input: a whole frame, with its payload and what follows it,
+-- something that is no lawful frame however it goes on, or less than a frame.
+pub data Front : Type 0 where
+  Whole : List ℕ → List ℕ → Front
+  Refused : BadKind → Front
+  Partial : Front
+
+-- a number of this width, and that many bytes
+abbrev pub counted_front : Width → ℕ → List ℕ → Front
+counted_front w max x =
+    let n = from_be_bytes w (take (byte_len w) x) in
+    if nat_lt (length x) (byte_len w) then Partial
+    else if nat_lt max n then Refused (TooBig n)
+    else if nat_lt (length x) (byte_len w + n) then Partial
+    else Whole (take n (drop (byte_len w) x)) (drop (byte_len w + n) x)
+
+-- the bytes up to a line feed
+abbrev pub line_front : ℕ → List ℕ → Front
+line_front max x =
+    let n = position_or_len is_line_feed x in
+    if nat_lt n (length x) && nat_le n max then Whole (take n x) (drop (n + 1) x)
+    else if nat_lt max (length x) then Refused (TooBig (max + 1))
+    else Partial
+
+abbrev pub front : Framing → ℕ → List ℕ → Front
+front Len4 max x = counted_front w32 max x
+front Len2 max x = counted_front w16 max x
+front Line max x = line_front max x
+
+-- The payloads of the whole frames, and the rest behind them. Each frame has a byte, so there are at most `length x`.
+abbrev pub frames_within : ℕ → Framing → ℕ → List ℕ → List (List ℕ) × List ℕ
+frames_within zero f max x = ([], x)
+frames_within (suc most) f max x = elim (front f max x) [
+  | Whole p more ↦ let others = frames_within most f max more in (p ∷ others.0, others.1)
+  | Refused kind ↦ ([], x)
+  | Partial ↦ ([], x)
+]
+
+abbrev pub frames : Framing → ℕ → List ℕ → List (List ℕ) × List ℕ
+frames f max x = frames_within (length x) f max x
+
+-- What is said of an input beyond its payloads. More may come (Open), it ends behind its last frame (End),
+-- it ends within a frame that begins at a place (Rest), or a bad frame begins at a place (Bad).
+pub data Verdict : Type 0 where
+  Open : Verdict
+  End : Verdict
+  Rest : ℕ → Verdict
+  Bad : ℕ → BadKind → Verdict
+
+pub record Cutting : Type 0 where
+  pub payloads : List (List ℕ)
+  pub verdict : Verdict
+
+-- at the end of the input, a line need not be ended
+abbrev pub last_line : Framing → Front → Bool → List ℕ → List (List ℕ)
+last_line Line Partial true (b ∷ rest) = (b ∷ rest) ∷ []
+last_line f before at_end rest = []
+
+abbrev pub verdict_on : Framing → Front → Bool → ℕ → List ℕ → Verdict
+verdict_on f (Refused kind) at_end place rest = Bad place kind
+verdict_on f before false place rest = Open
+verdict_on f before true place [] = End
+verdict_on Line before true place (b ∷ rest) = End
+verdict_on f before true place (b ∷ rest) = Rest place
+
+-- An input as a framing cuts it, with payloads of at most `max` bytes. `at_end` says that nothing more comes.
+abbrev pub cut : Framing → ℕ → List ℕ → Bool → Cutting
+cut f max x at_end =
+    let whole = frames f max x in
+    let before = front f max whole.1 in
+    record {
+      payloads = whole.0 ++ last_line f before at_end whole.1;
+      verdict = verdict_on f before at_end (length (text f whole.0)) whole.1;
+    }
+
+-- ---- the same in words
+
+-- An input begins with the frames of these payloads, each of at most `max` bytes, and this is behind them.
+pub record BeginsWith (f : Framing) (max : ℕ) (x : List ℕ) (payloads : List (List ℕ)) (rest : List ℕ) : Type 0 where
+  pub each : AllByRecursion (λ p. (length p ≤ max) × IsNone (obstacle f p)) payloads
+  pub parts : x ≡ text f payloads ++ rest
+
+abbrev pub IsBytes : List ℕ → Type 0
+IsBytes x = (k : ℕ) → slice_index x k < 256
+
+-- ---- an input behind a frame
+
+abbrev pub moved : ℕ → Verdict → Verdict
+moved n Open = Open
+moved n End = End
+moved n (Rest place) = Rest (n + place)
+moved n (Bad place kind) = Bad (n + place) kind
+
+-- A payload whose frame has n bytes, and then this cutting.
+abbrev pub behind_frame : List ℕ → ℕ → Cutting → Cutting
+behind_frame p n c = record { payloads = p ∷ c.payloads; verdict = moved n c.verdict }
+
+-- What may still come behind an input: nothing, where it is at its end.
+abbrev pub MayCome : Bool → List ℕ → Bool → Type 0
+MayCome false z at_end = Unit {0}
+MayCome true z at_end = (z ≡ []) × (at_end ≡ true)

@@ -1,0 +1,5 @@
+pub mod Spelling
+pub mod Cut
+pub mod Translation
+pub mod Ending
+pub mod Cases
