@@ -50,5 +50,9 @@ pub fn spell_tail(framing: Framing) -> Affix
 fn first_past(len: u64, greatest: u64) -> Option<u64>
     ensures { result ≡ (if nat_lt len (greatest + 1) then None else Some greatest) }
 {
-    if len <= greatest { None } else { Some(greatest) }
+    if len <= greatest {
+        None
+    } else {
+        Some(greatest)
+    }
 }

@@ -8,7 +8,9 @@ mod framing;
 mod job;
 mod laws;
 
-pub use cases::{cut_cases, ending_cases, greatest_payload_cases, spelling_cases, translation_cases};
+pub use cases::{
+    cut_cases, ending_cases, greatest_payload_cases, spelling_cases, translation_cases,
+};
 pub use ending::{FillEnd, Outcome};
 pub use framing::{BadKind, Framing};
 pub use job::Job;
