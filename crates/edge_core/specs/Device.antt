@@ -14,7 +14,11 @@ pub record SinkState : Type 0 where
 
 -- A count of faults has risen. A count that stands at its greatest value may have counted more.
 abbrev pub HasRisen : ℕ → ℕ → Type 0
-HasRisen before after = (before < after) ⊎ ((before ≡ after) × (after ≡ 2 ^ 64 - 1))
+HasRisen before after = (before < after) ⊎ ((before ≡ 2 ^ 64 - 1) × (after ≡ 2 ^ 64 - 1))
+
+-- No call was counted as failed, and the count could have told.
+abbrev pub HasNotRisen : ℕ → ℕ → Type 0
+HasNotRisen before after = (after ≡ before) × (after < 2 ^ 64 - 1)
 
 -- Calls of a source that didn't fail took these bytes from the front of what was left.
 pub record Gives (before : SourceState) (bytes : List ℕ) (after : SourceState) : Type 0 where

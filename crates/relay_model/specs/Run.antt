@@ -1,0 +1,92 @@
+-- What a relay does to its source and its sink.
+use Rattle.std.specs.Prelude.{ℕ, ◌≡◌, ◌≢◌, ◌<◌, ◌≤◌, ◌⊎◌, Bool, true, false, List, [], ◌++◌, length, IfSome}
+use Rattle.std.specs.Io.KnownBytes.{Appends, Consumes, IsAtEnd}
+use mathlib.Core.List.{IsPrefix}
+use Rattle.edge_core.specs.Device.{SourceState, SinkState, HasRisen, HasNotRisen}
+use Rattle.frame_model.specs.declared.job.Job.{Job}
+use Rattle.frame_model.specs.declared.ending.FillEnd.{FillEnd}
+use Rattle.frame_model.specs.declared.ending.FillEnd.TheVariants as taking
+use Rattle.frame_model.specs.declared.ending.Outcome.{Outcome}
+use Rattle.frame_model.specs.Cut.{End}
+use Rattle.frame_model.specs.Translation.{Translation, translation}
+use Rattle.frame_model.specs.Ending.{is_at_end, outcome_of, status_of}
+
+-- What was taken from the source and how that ended, what was written to the sink, and whether a write or a flush failed.
+pub record Run : Type 0 where
+  pub taken : List ℕ
+  pub ending : FillEnd
+  pub written : List ℕ
+  pub write_failed : Bool
+
+-- The translation of what was taken, which goes to the input's end only where the source was read to its end.
+abbrev pub translated : Job → Run → Translation
+translated job run = translation job run.taken (is_at_end run.ending)
+
+abbrev pub outcome : Job → Run → Outcome
+outcome job run = outcome_of run.write_failed run.ending (translated job run).verdict
+
+-- One byte past the limit is read and dropped.
+abbrev pub IsDropped : FillEnd → List ℕ → Type 0
+IsDropped taking.Long bytes = length bytes ≡ 1
+IsDropped ending bytes = bytes ≡ []
+
+-- The run took what left the source, and the taking ended for the reason that it says.
+pub record IsTaken (job : Job) (run : Run) (before after : SourceState) : Type 0 where
+  pub dropped : List ℕ
+  pub dropping : IsDropped run.ending dropped
+  pub given : Consumes before.left after.left (run.taken ++ dropped)
+  pub within : length run.taken ≤ job.limit
+  pub end : run.ending ≡ taking.End → IsAtEnd after.left
+  pub long : run.ending ≡ taking.Long → length run.taken ≡ job.limit
+  pub fault : run.ending ≡ taking.Fault → HasRisen before.faults after.faults
+  pub unfailed : run.ending ≢ taking.Fault → after.faults ≡ before.faults
+
+-- The run wrote what came to the sink: the whole translation, or where a write or a flush failed a front of it.
+pub record IsPassedOn (job : Job) (run : Run) (before after : SinkState) : Type 0 where
+  pub gained : Appends before.written after.written run.written
+  pub front : IsPrefix run.written (translated job run).text
+  pub whole : run.write_failed ≡ false → run.written ≡ (translated job run).text
+  pub fault : run.write_failed ≡ true → HasRisen before.faults after.faults
+  pub unfailed : run.write_failed ≡ false → after.faults ≡ before.faults
+
+-- The run is what passed from the source to the sink. The taking goes on until a frame is bad or a write fails.
+pub record IsRun (job : Job) (run : Run) (source_before source_after : SourceState) (sink_before sink_after : SinkState) : Type 0 where
+  pub taken : IsTaken job run source_before source_after
+  pub passed_on : IsPassedOn job run sink_before sink_after
+  pub gone : (code : ℕ) → run.ending ≡ taking.Gone code → (status_of (outcome job run) ≡ 2) ⊎ (status_of (outcome job run) ≡ 5)
+
+-- A run passed, and this is its status.
+pub record IsRelayed (job : Job) (status : ℕ) (source_before source_after : SourceState) (sink_before sink_after : SinkState) : Type 0 where
+  pub run : Run
+  pub is_run : IsRun job run source_before source_after sink_before sink_after
+  pub told : status ≡ status_of (outcome job run)
+
+-- A run passed, and so it ended.
+pub record IsRelayedTo (job : Job) (end : Outcome) (source_before source_after : SourceState) (sink_before sink_after : SinkState) : Type 0 where
+  pub run : Run
+  pub is_run : IsRun job run source_before source_after sink_before sink_after
+  pub told : end ≡ outcome job run
+
+-- ---- what follows
+
+-- Where neither device failed, the sink gains the translation of all that the source held.
+abbrev pub TranslatesAll : Job → SourceState → SourceState → SinkState → SinkState → Type 0
+TranslatesAll job source_before source_after sink_before sink_after =
+    HasNotRisen source_before.faults source_after.faults → HasNotRisen sink_before.faults sink_after.faults →
+    IfSome source_before.left (λ input. length input ≤ job.limit →
+      Appends sink_before.written sink_after.written (translation job input true).text)
+
+-- The source has nothing left, what it held is lawful to its end, and the sink gains the translation of it.
+abbrev pub RelaysAll : Job → SourceState → SourceState → SinkState → SinkState → Type 0
+RelaysAll job source_before source_after sink_before sink_after =
+    IfSome source_before.left (λ input. IsAtEnd source_after.left × ((translation job input true).verdict ≡ End)
+      × Appends sink_before.written sink_after.written (translation job input true).text)
+
+-- Each status comes for its reason alone, and a device that failed shows in the status.
+pub record HasCause (status : ℕ) (source_before source_after : SourceState) (sink_before sink_after : SinkState) : Type 0 where
+  pub at_end : (status ≡ 0) ⊎ (status ≡ 3) → IsAtEnd source_after.left
+  pub read_fault : status ≡ 4 → HasRisen source_before.faults source_after.faults
+  pub write_fault : status ≡ 5 → HasRisen sink_before.faults sink_after.faults
+  pub source_failed : source_before.faults < source_after.faults → (status ≡ 2) ⊎ ((status ≡ 4) ⊎ (status ≡ 5))
+  pub sink_failed : sink_before.faults < sink_after.faults → status ≡ 5
+  pub few : (status ≤ 7) × (status ≢ 1) × (status ≢ 6)
