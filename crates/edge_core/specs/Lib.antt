@@ -1,1 +1,4 @@
 pub mod Device
+pub mod MemSink
+pub mod MemSource
+pub mod Plan

@@ -2,5 +2,8 @@
 #![tactic(auto)]
 
 mod device;
+mod plan;
+mod writing;
 
 pub use device::{Failed, Sink, Source};
+pub use writing::write_all;
