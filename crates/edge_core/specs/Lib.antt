@@ -2,3 +2,4 @@ pub mod Device
 pub mod MemSink
 pub mod MemSource
 pub mod Plan
+pub mod WholeSource

@@ -9,5 +9,5 @@ pub record MemSourceState : Type 0 where
   pub plan : PlanState
 
 -- A source in memory tells its bytes.
-abbrev pub source_state : MemSourceState → SourceState
-source_state source = record { left = Some source.left; faults = source.plan.faults }
+abbrev pub mem_source_state : MemSourceState → SourceState
+mem_source_state source = record { left = Some source.left; faults = source.plan.faults }

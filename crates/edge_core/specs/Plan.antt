@@ -1,6 +1,5 @@
 -- What a device in memory is to do: how much each of its calls moves, and which of them fail.
-use Rattle.std.specs.Prelude.{ℕ, ◌+◌, ◌-◌, ◌^◌, ◌<◌, min, max, List, [], ◌∷◌, Contains}
-use Rattle.std.specs.Prelude.{drop}
+use Rattle.std.specs.Prelude.{ℕ, ◌+◌, ◌-◌, ◌^◌, ◌<◌, min, max, List, [], ◌∷◌, drop, Contains}
 
 -- The cuts of the transfers to come, the numbers of the calls that fail, and how many calls were made and how many failed.
 pub record PlanState : Type 0 where
@@ -8,6 +7,10 @@ pub record PlanState : Type 0 where
   pub fails : List ℕ
   pub calls : ℕ
   pub faults : ℕ
+
+-- The plan before the first call.
+abbrev pub plan_of : List ℕ → List ℕ → PlanState
+plan_of cuts fails = record { cuts = cuts; fails = fails; calls = 0; faults = 0 }
 
 -- A count after one more. It stops at its greatest value.
 abbrev pub raised : ℕ → ℕ

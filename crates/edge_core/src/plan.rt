@@ -1,7 +1,7 @@
 //! What a device in memory is to do.
 
 ghost use Rattle.std.specs.Prelude.{◌≡◌, ◌↔◌, ◌⊎◌, ◌≤◌, ◌<◌, [], drop, vec_len, IsTrue, IsErr, OnErr, OnOk};
-ghost use Rattle.edge_core.specs.Plan.{PlanState, FailsNext, cut_to, after_call, after_fault};
+ghost use Rattle.edge_core.specs.Plan.{plan_of, FailsNext, cut_to, after_call, after_fault};
 
 use crate::device::Failed;
 use std::marker::Model;
@@ -34,7 +34,7 @@ impl Model for Plan {
 
 impl Plan {
     pub(crate) fn new(cuts: Vec<usize>, fails: Vec<u64>) -> Self
-        ensures { result ≡ record { cuts = cuts.items; fails = fails.items; calls = 0; faults = 0 } }
+        ensures { result ≡ plan_of cuts.items fails.items }
     {
         Plan {
             cuts,
