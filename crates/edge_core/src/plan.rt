@@ -1,6 +1,7 @@
 //! What a device in memory is to do.
 
 ghost use Rattle.std.specs.Prelude.{◌≡◌, ◌↔◌, ◌⊎◌, ◌≤◌, ◌<◌, [], drop, vec_len, IsTrue, IsErr, OnErr, OnOk};
+ghost use Rattle.edge_core.specs.Device.{HasRisen};
 ghost use Rattle.edge_core.specs.Plan.{plan_of, FailsNext, cut_to, after_call, after_fault};
 
 use crate::device::Failed;
@@ -50,6 +51,7 @@ impl Plan {
         ensures fails { IsErr result ↔ (IsTrue is_refused ⊎ FailsNext self.old) }
         ensures counted { OnOk result (self.new ≡ after_call self.old) }
         ensures failed { OnErr result (self.new ≡ after_fault self.old) }
+        ensures risen { OnErr result (HasRisen self.old.faults self.new.faults) }
     {
         let is_to_fail = self.is_next_to_fail();
         self.calls = self.calls.saturating_add(1);
