@@ -15,3 +15,6 @@ pub use mem_source::MemSource;
 pub use std_edges::{ReadEdge, WriteEdge};
 pub use whole_source::WholeSource;
 pub use writing::write_all;
+
+#[cfg(test)]
+mod tests;

@@ -24,10 +24,10 @@ impl Model for Plan {
     ghost Value = { PlanState };
 
     ghost view = { λ plan. record {
-        cuts = drop plan.used_cuts plan.cuts.items;
-        fails = plan.fails.items;
-        calls = plan.calls;
-        faults = plan.faults;
+      cuts = drop plan.used_cuts plan.cuts.items;
+      fails = plan.fails.items;
+      calls = plan.calls;
+      faults = plan.faults;
     } };
 
     ghost invariant = { λ plan. plan.used_cuts ≤ vec_len plan.cuts };
