@@ -1,5 +1,6 @@
 -- What a contract sees of a device: its bytes, where it tells them, and its count of faults.
 use Rattle.std.specs.Prelude.{ℕ, ◌≡◌, ◌<◌, ◌-◌, ◌^◌, ◌⊎◌, List, Option}
+use mathlib.Core.List.{IsPrefix}
 use Rattle.std.specs.Io.KnownBytes.{Appends, Consumes, Keeps}
 
 -- The bytes that a source will still give, or None where it doesn't tell, and how many of its calls have failed.
@@ -38,4 +39,11 @@ pub record Takes (before : SinkState) (bytes : List ℕ) (after : SinkState) : T
 -- A call of a sink failed, and nothing was written by it.
 pub record SinkFails (before after : SinkState) : Type 0 where
   pub kept : Keeps before.written after.written
+  pub risen : HasRisen before.faults after.faults
+
+-- Calls of a sink put a front of these bytes at the end of what was written, and then one of them failed.
+pub record TakesFront (before : SinkState) (bytes : List ℕ) (after : SinkState) : Type 0 where
+  pub front : List ℕ
+  pub is_front : IsPrefix front bytes
+  pub taken : Appends before.written after.written front
   pub risen : HasRisen before.faults after.faults

@@ -2,5 +2,19 @@
 #![tactic(auto)]
 
 mod device;
+mod mem_sink;
+mod mem_source;
+mod plan;
+mod std_edges;
+mod whole_source;
+mod writing;
 
 pub use device::{Failed, Sink, Source};
+pub use mem_sink::MemSink;
+pub use mem_source::MemSource;
+pub use std_edges::{ReadEdge, WriteEdge};
+pub use whole_source::WholeSource;
+pub use writing::write_all;
+
+#[cfg(test)]
+mod tests;
