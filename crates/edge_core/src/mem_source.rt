@@ -59,8 +59,7 @@ impl Source for MemSource {
         ensures after_failed { OnErr result (self.new ≡ record self.old { plan = after_fault self.old.plan }) }
     {
         self.plan.start_call(false)?;
-        let most = buf.len().min(self.content.left_len());
-        let count = self.plan.use_cut(most);
-        self.content.read(&mut buf[..count])
+        let most = self.plan.use_cut(buf.len());
+        self.content.read(&mut buf[..most])
     }
 }
