@@ -41,8 +41,10 @@ impl Source for WholeSource {
     fn read(&mut self, buf: &mut [u8]) -> Result<usize, Failed>
         ensures amount { result ≡ Ok (min (length buf.old) (length self.old)) }
         ensures room { IfOk result (λ n. n ≤ length buf.old) }
-        ensures given { IfOk result (λ n. Gives (whole_source_state self.old) (take n buf.new) (whole_source_state self.new)) }
-        ensures end { IfOk result (λ n. n ≡ 0 → 0 < length buf.old → IsAtEnd (whole_source_state self.new).left) }
+        ensures given { IfOk result (λ n.
+            Gives (whole_source_state self.old) (take n buf.new) (whole_source_state self.new)) }
+        ensures end { IfOk result (λ n.
+            n ≡ 0 → 0 < length buf.old → IsAtEnd (whole_source_state self.new).left) }
         ensures left { IfOk result (λ n. self.new ≡ drop n self.old) }
     {
         let count = buf.len().min(self.content.len() - self.given);
