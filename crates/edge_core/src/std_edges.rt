@@ -9,7 +9,8 @@ ghost use Rattle.edge_core.specs.StdEdges.{reader_state, writer_state};
 use crate::device::{Failed, Sink, Source};
 use std::io::{Read, Write};
 
-/// A reader as a source. Each read that answers an error counts as a fault, an interrupted one too.
+/// A reader as a source. Each read that answers an error counts as a fault, an interrupted one too. What a reader
+/// answers is in no contract, so none says that a fault comes from it alone.
 #[derive(Debug, Drop)]
 pub struct ReadEdge<R> {
     inner: R,
@@ -49,7 +50,7 @@ impl<R: Read> Source for ReadEdge<R> {
 }
 
 /// A writer as a sink. Each write or flush that answers an error counts as a fault, an interrupted one too, and so
-/// does a write that takes nothing of some bytes.
+/// does a write that takes nothing of some bytes. What a writer answers, and that it was flushed, is in no contract.
 #[derive(Debug, Drop)]
 pub struct WriteEdge<W> {
     inner: W,
