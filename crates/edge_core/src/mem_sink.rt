@@ -42,7 +42,8 @@ impl MemSink {
         caps: Vec<usize>,
         fails: Vec<u64>,
     ) -> Result<Self, AllocError>
-        ensures { IfOk result (λ sink. sink ≡ record { written = []; room = room; plan = plan_of caps.items fails.items }) }
+        ensures { IfOk result (λ sink.
+            sink ≡ record { written = []; room = room; plan = plan_of caps.items fails.items }) }
     {
         Ok(MemSink {
             written: Vec::with_capacity(alloc, room)?,
@@ -67,13 +68,18 @@ impl Sink for MemSink {
         // As any sink.
         ensures some { IfOk result (λ n. n ≤ length piece.now) }
         ensures progress { IfOk result (λ n. 0 < length piece.now → 0 < n) }
-        ensures taken { IfOk result (λ n. Takes (mem_sink_state self.old) (take n piece.now) (mem_sink_state self.new)) }
+        ensures taken { IfOk result (λ n.
+            Takes (mem_sink_state self.old) (take n piece.now) (mem_sink_state self.new)) }
         ensures failed { OnErr result (SinkFails (mem_sink_state self.old) (mem_sink_state self.new)) }
 
         // As planned.
         ensures fails { IsErr result ↔ (LacksRoom self.old piece.now ⊎ FailsNext self.old.plan) }
-        ensures amount { IfOk result (λ n. n ≡ cut_to self.old.plan.cuts (min (length piece.now) (room_left self.old))) }
-        ensures after { IfOk result (λ n. self.new ≡ record self.old { written = self.old.written ++ take n piece.now; plan = after_transfer self.old.plan }) }
+        ensures amount { IfOk result (λ n.
+            n ≡ cut_to self.old.plan.cuts (min (length piece.now) (room_left self.old))) }
+        ensures after { IfOk result (λ n. self.new ≡ record self.old {
+          written = self.old.written ++ take n piece.now;
+          plan = after_transfer self.old.plan;
+        }) }
         ensures after_failed { OnErr result (self.new ≡ record self.old { plan = after_fault self.old.plan }) }
         ensures within { length self.new.written ≤ self.new.room }
     {

@@ -48,19 +48,22 @@ impl Source for MemSource {
     fn read(&mut self, buf: &mut [u8]) -> Result<usize, Failed>
         // As any source.
         ensures room { IfOk result (λ n. n ≤ length buf.old) }
-        ensures given { IfOk result (λ n. Gives (mem_source_state self.old) (take n buf.new) (mem_source_state self.new)) }
-        ensures end { IfOk result (λ n. n ≡ 0 → 0 < length buf.old → IsAtEnd (mem_source_state self.new).left) }
+        ensures given { IfOk result (λ n.
+            Gives (mem_source_state self.old) (take n buf.new) (mem_source_state self.new)) }
+        ensures end { IfOk result (λ n.
+            n ≡ 0 → 0 < length buf.old → IsAtEnd (mem_source_state self.new).left) }
         ensures failed { OnErr result (Fails (mem_source_state self.old) (mem_source_state self.new)) }
 
         // As planned.
         ensures fails { IsErr result ↔ FailsNext self.old.plan }
-        ensures amount { IfOk result (λ n. n ≡ cut_to self.old.plan.cuts (min (length buf.old) (length self.old.left))) }
-        ensures after { IfOk result (λ n. self.new ≡ record { left = drop n self.old.left; plan = after_transfer self.old.plan }) }
+        ensures amount { IfOk result (λ n.
+            n ≡ cut_to self.old.plan.cuts (min (length buf.old) (length self.old.left))) }
+        ensures after { IfOk result (λ n.
+            self.new ≡ record { left = drop n self.old.left; plan = after_transfer self.old.plan }) }
         ensures after_failed { OnErr result (self.new ≡ record self.old { plan = after_fault self.old.plan }) }
     {
         self.plan.start_call(false)?;
-        let most = buf.len().min(self.content.left_len());
-        let count = self.plan.use_cut(most);
-        self.content.read(&mut buf[..count])
+        let most = self.plan.use_cut(buf.len());
+        self.content.read(&mut buf[..most])
     }
 }

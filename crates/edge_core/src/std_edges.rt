@@ -9,7 +9,8 @@ ghost use Rattle.edge_core.specs.StdEdges.{reader_state, writer_state};
 use crate::device::{Failed, Sink, Source};
 use std::io::{Read, Write};
 
-/// A reader as a source. Each read that answers an error counts as a fault, an interrupted one too.
+/// A reader as a source. Each read that answers an error counts as a fault, an interrupted one too. What a reader
+/// answers is in no contract, so none says that a fault comes from it alone.
 #[derive(Debug, Drop)]
 pub struct ReadEdge<R> {
     inner: R,
@@ -30,10 +31,13 @@ impl<R: Read> Source for ReadEdge<R> {
 
     fn read(&mut self, buf: &mut [u8]) -> Result<usize, Failed>
         ensures room { IfOk result (λ n. n ≤ length buf.old) }
-        ensures given { IfOk result (λ n. Gives (reader_state R.remaining self.old) (take n buf.new) (reader_state R.remaining self.new)) }
-        ensures end { IfOk result (λ n. n ≡ 0 → 0 < length buf.old → IsAtEnd (reader_state R.remaining self.new).left) }
+        ensures given { IfOk result (λ n.
+            Gives (reader_state R.remaining self.old) (take n buf.new) (reader_state R.remaining self.new)) }
+        ensures end { IfOk result (λ n.
+            n ≡ 0 → 0 < length buf.old → IsAtEnd (reader_state R.remaining self.new).left) }
         ensures failed { OnErr result (Fails (reader_state R.remaining self.old) (reader_state R.remaining self.new)) }
-        ensures counted { OnErr result ((reader_state R.remaining self.new).faults ≡ raised (reader_state R.remaining self.old).faults) }
+        ensures counted { OnErr result (
+            (reader_state R.remaining self.new).faults ≡ raised (reader_state R.remaining self.old).faults) }
     {
         match self.inner.read(buf) {
             Ok(count) => Ok(count),
@@ -46,7 +50,7 @@ impl<R: Read> Source for ReadEdge<R> {
 }
 
 /// A writer as a sink. Each write or flush that answers an error counts as a fault, an interrupted one too, and so
-/// does a write that takes nothing of some bytes.
+/// does a write that takes nothing of some bytes. What a writer answers, and that it was flushed, is in no contract.
 #[derive(Debug, Drop)]
 pub struct WriteEdge<W> {
     inner: W,
@@ -68,9 +72,11 @@ impl<W: Write> Sink for WriteEdge<W> {
     fn write(&mut self, piece: &[u8]) -> Result<usize, Failed>
         ensures some { IfOk result (λ n. n ≤ length piece.now) }
         ensures progress { IfOk result (λ n. 0 < length piece.now → 0 < n) }
-        ensures taken { IfOk result (λ n. Takes (writer_state W.contents self.old) (take n piece.now) (writer_state W.contents self.new)) }
+        ensures taken { IfOk result (λ n.
+            Takes (writer_state W.contents self.old) (take n piece.now) (writer_state W.contents self.new)) }
         ensures failed { OnErr result (SinkFails (writer_state W.contents self.old) (writer_state W.contents self.new)) }
-        ensures counted { OnErr result ((writer_state W.contents self.new).faults ≡ raised (writer_state W.contents self.old).faults) }
+        ensures counted { OnErr result (
+            (writer_state W.contents self.new).faults ≡ raised (writer_state W.contents self.old).faults) }
     {
         match self.inner.write(piece) {
             Ok(count) if count > 0 || piece.is_empty() => Ok(count),
@@ -84,7 +90,8 @@ impl<W: Write> Sink for WriteEdge<W> {
     fn flush(&mut self) -> Result<(), Failed>
         ensures taken { OnOk result (Takes (writer_state W.contents self.old) [] (writer_state W.contents self.new)) }
         ensures failed { OnErr result (SinkFails (writer_state W.contents self.old) (writer_state W.contents self.new)) }
-        ensures counted { OnErr result ((writer_state W.contents self.new).faults ≡ raised (writer_state W.contents self.old).faults) }
+        ensures counted { OnErr result (
+            (writer_state W.contents self.new).faults ≡ raised (writer_state W.contents self.old).faults) }
     {
         match self.inner.flush() {
             Ok(()) => Ok(()),

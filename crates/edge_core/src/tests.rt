@@ -106,17 +106,17 @@ fn a_full_sink_fails_and_still_flushes(rt: HostRuntime) -> Result<(), Fail> {
     Ok(())
 }
 
-// Its first call is interrupted.
+// Every other call is interrupted, from the first one on.
 #[derive(Drop)]
 struct Interrupted<T> {
     inner: T,
-    is_done: bool,
+    is_interrupted: bool,
 }
 
 impl<T> Interrupted<T> {
     fn pass(&mut self) -> io::Result<&mut T> {
-        if !self.is_done {
-            self.is_done = true;
+        self.is_interrupted = !self.is_interrupted;
+        if self.is_interrupted {
             return Err(io::Error::from(ErrorKind::Interrupted));
         }
         Ok(&mut self.inner)
@@ -143,12 +143,14 @@ impl<W: Write> Write for Interrupted<W> {
 fn a_reader_passes_on_its_bytes_and_its_errors(rt: HostRuntime) -> Result<(), Fail> {
     let mut source = ReadEdge::new(Interrupted {
         inner: FRAMES,
-        is_done: false,
+        is_interrupted: false,
     });
-    let steps: [(Result<usize, Failed>, &[u8]); 4] = [
+    let steps: [(Result<usize, Failed>, &[u8]); 6] = [
         (Err(Failed), &[]),
         (Ok(5), &[0, 0, 0, 1, 97]),
+        (Err(Failed), &[]),
         (Ok(2), &[0, 0]),
+        (Err(Failed), &[]),
         (Ok(0), &[]),
     ];
     for (answer, front) in steps {
@@ -164,11 +166,11 @@ fn a_writer_passes_on_its_bytes_and_its_errors(rt: HostRuntime) -> Result<(), Fa
     let mut written = Vec::new(rt.alloc());
     let mut sink = WriteEdge::new(Interrupted {
         inner: &mut written,
-        is_done: false,
+        is_interrupted: false,
     });
-    assert_eq!(rt; write_to(&mut sink, b"ab"), Err(Failed));
+    assert_eq!(rt; flush(&mut sink), Err(Failed));
     assert_eq!(rt; write_to(&mut sink, b"ab"), Ok(2));
-    assert_eq!(rt; write_to(&mut sink, b""), Ok(0));
+    assert_eq!(rt; write_to(&mut sink, b"cd"), Err(Failed));
     assert_eq!(rt; flush(&mut sink), Ok(()));
     assert_eq!(rt; written.as_slice(), b"ab".as_slice());
     Ok(())

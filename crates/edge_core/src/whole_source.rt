@@ -33,13 +33,6 @@ impl WholeSource {
     {
         WholeSource { content, given: 0 }
     }
-
-    // How many bytes are left.
-    pub(crate) fn left_len(&self) -> usize
-        ensures { result ≡ length self.now }
-    {
-        self.content.len() - self.given
-    }
 }
 
 impl Source for WholeSource {
@@ -48,11 +41,13 @@ impl Source for WholeSource {
     fn read(&mut self, buf: &mut [u8]) -> Result<usize, Failed>
         ensures amount { result ≡ Ok (min (length buf.old) (length self.old)) }
         ensures room { IfOk result (λ n. n ≤ length buf.old) }
-        ensures given { IfOk result (λ n. Gives (whole_source_state self.old) (take n buf.new) (whole_source_state self.new)) }
-        ensures end { IfOk result (λ n. n ≡ 0 → 0 < length buf.old → IsAtEnd (whole_source_state self.new).left) }
+        ensures given { IfOk result (λ n.
+            Gives (whole_source_state self.old) (take n buf.new) (whole_source_state self.new)) }
+        ensures end { IfOk result (λ n.
+            n ≡ 0 → 0 < length buf.old → IsAtEnd (whole_source_state self.new).left) }
         ensures left { IfOk result (λ n. self.new ≡ drop n self.old) }
     {
-        let count = buf.len().min(self.left_len());
+        let count = buf.len().min(self.content.len() - self.given);
         let end = self.given + count;
         buf[..count].copy_from_slice(&self.content[self.given..end]);
         self.given = end;

@@ -1,5 +1,4 @@
 use Rattle.std.proofs.Common.{◌≡◌, length, refl, arith}
-use Rattle.std.proofs.lemmas.List.{length-take}
 use Rattle.std.proofs.lemmas.Grind.{common_steps}
 use Rattle.edge_core.proofs.SourceLemmas.{drop-split_by_read}
 use Rattle.edge_core.proofs.whole_source.WholeSourceSource.read.Goals as goal
