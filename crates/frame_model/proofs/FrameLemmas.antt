@@ -1,16 +1,16 @@
 -- Where the frame at the front of an input lies, and how long an input can be that has none.
-use Rattle.std.proofs.Common.{◌≡◌, ◌<◌, ◌≤◌, ◌+◌, ◌-◌, ℕ, nat_lt, nat_le, ◌&&◌, List, [], ◌∷◌, ◌++◌, length, take, drop, refl, sym, ap, ◌∙◌, arith, inl, inr, ◌⊎◌, add-zero, zero-add}
+use Rattle.std.proofs.Common.{◌≡◌, ◌<◌, ◌≤◌, ◌+◌, ◌-◌, ℕ, nat_lt, nat_le, ◌&&◌, List, ◌++◌, length, take, drop, refl, arith, inl, inr, ◌⊎◌, add-zero, zero-add}
 use Rattle.std.specs.Prelude.{slice_range}
 use Rattle.std.specs.List.{position_or_len}
 use Rattle.std.specs.Int.{Width, w16, w32, byte_len}
-use Rattle.std.proofs.lemmas.Bool.{ltb-true, ltb-false, leb-false, and_cases}
+use Rattle.std.proofs.lemmas.Bool.{ltb-true, ltb-false}
 use Rattle.std.proofs.lemmas.List.{length-append, length-take, length-drop}
 use Rattle.std.proofs.Math.Nat.{sub-zero}
 use Rattle.frame_model.specs.declared.framing.Framing.{Framing}
 use Rattle.frame_model.specs.declared.framing.Framing.TheVariants.{Len4, Len2, Line}
 use Rattle.frame_model.specs.Spelling.{is_line_feed, head_of, tail_of, spelling, longest_frame}
-use Rattle.frame_model.specs.Cut.{Whole, Refused, Partial, front, counted_front, line_front}
-use Rattle.frame_model.proofs.FrontLemmas.{chosen, counted_is, line_is, line_len_le, number_of}
+use Rattle.frame_model.specs.Cut.{Whole, Partial, front, counted_front, line_front}
+use Rattle.frame_model.proofs.FrontLemmas.{chosen, counted_is, line_is, number_of}
 
 pub record LiesAtFront (f : Framing) (x p more : List ℕ) (from to end : ℕ) : Type 0 where
   pub from_is : from ≡ length (head_of f (length p))

@@ -79,7 +79,7 @@ counted_refused_more w max x z kind e =
 
 -- ---- the bytes up to a line_feed
 
-abbrev line_len : List ℕ → ℕ
+abbrev pub line_len : List ℕ → ℕ
 line_len x = position_or_len is_line_feed x
 
 pub line_len_le : (x : List ℕ) → line_len x ≤ length x

@@ -1,5 +1,5 @@
 -- How an input is cut into frames.
-use Rattle.std.specs.Prelude.{ℕ, zero, suc, ◌≡◌, ◌+◌, ◌≤◌, ◌<◌, nat_lt, nat_le, ◌&&◌, Bool, true, false, List, [], ◌∷◌, ◌++◌, length, take, drop, slice_index, IsNone, if◌then◌else◌}
+use Rattle.std.specs.Prelude.{ℕ, zero, suc, ◌≡◌, ◌≢◌, ◌+◌, ◌≤◌, ◌<◌, nat_lt, nat_le, ◌&&◌, Bool, true, false, List, [], ◌∷◌, ◌++◌, length, take, drop, slice_index, IsNone, if◌then◌else◌}
 use Rattle.std.specs.List.{position_or_len, AllByRecursion}
 use Rattle.std.specs.Int.{Width, w16, w32, byte_len, from_be_bytes}
 use Rattle.frame_model.specs.declared.framing.Framing.{Framing}
@@ -92,6 +92,24 @@ pub record BeginsWith (f : Framing) (max : ℕ) (x : List ℕ) (payloads : List 
 
 abbrev pub IsBytes : List ℕ → Type 0
 IsBytes x = (k : ℕ) → slice_index x k < 256
+
+-- An input begins with a whole head, which tells more than `max` bytes.
+pub record HasTooGreatHead (w : Width) (max : ℕ) (x : List ℕ) (kind : BadKind) : Type 0 where
+  pub whole : byte_len w ≤ length x
+  pub too_great : max < from_be_bytes w (take (byte_len w) x)
+  pub told : kind ≡ TooBig (from_be_bytes w (take (byte_len w) x))
+
+-- An input begins with more than `max` bytes of a line, wherever the line ends.
+pub record HasTooLongLine (max : ℕ) (x : List ℕ) (kind : BadKind) : Type 0 where
+  pub longer : max < length x
+  pub unended : (k : ℕ) → k ≤ max → slice_index x k ≢ 10
+  pub told : kind ≡ TooBig (max + 1)
+
+-- No frame with a payload of at most `max` bytes stands at the front, however the input goes on.
+abbrev pub IsRefused : Framing → ℕ → List ℕ → BadKind → Type 0
+IsRefused Len4 max x kind = HasTooGreatHead w32 max x kind
+IsRefused Len2 max x kind = HasTooGreatHead w16 max x kind
+IsRefused Line max x kind = HasTooLongLine max x kind
 
 -- ---- an input behind a frame
 
