@@ -27,7 +27,7 @@ pub enum Cut {
 /// `Bad` is always `TooBig`. Where more is wanted, there is less than one longest frame.
 pub fn next_frame(framing: Framing, max: u64, bytes: &[u8], at_end: bool) -> Cut
     ensures first { result ≡ first_in framing max bytes.now at_end }
-    // What the answer says of the input, and of all that may come behind it.
+    // The input is cut into this payload and what the rest is cut into, also with more behind it; or into no payload, and why.
     ensures told { Tells framing max bytes.now at_end result }
     ensures short { result ≡ Cut.More → length bytes.now < longest_frame framing max }
 {

@@ -12,10 +12,8 @@ use Rattle.frame_model.specs.Spelling.{is_line_feed, head_of, tail_of, spelling,
 use Rattle.frame_model.specs.Cut.{Whole, Partial, front, counted_front, line_front}
 use Rattle.frame_model.proofs.FrontLemmas.{chosen, counted_is, line_is, number_of}
 
+-- a payload and what follows its frame, where the frame stands at the front
 pub record LiesAtFront (f : Framing) (x p more : List ℕ) (from to end : ℕ) : Type 0 where
-  pub from_is : from ≡ length (head_of f (length p))
-  pub to_is : to ≡ from + length p
-  pub end_is : end ≡ to + length (tail_of f)
   pub fits : end ≤ length x
   pub payload : slice_range x from to ≡ p
   pub rest : drop end x ≡ more
@@ -38,18 +36,15 @@ pub frame_at : (f : Framing) (max : ℕ) (x p more : List ℕ) → front f max x
     → LiesAtFront f x p more (length (head_of f (length p))) (length (head_of f (length p)) + length p) (length (head_of f (length p)) + length p + length (tail_of f))
 frame_at Len4 max x p more e =
     let c = counted_at w32 max x p more e in
-    record { from_is = refl; to_is = refl; end_is = refl; fits = omega (arith, c.fits); payload = c.payload; rest = rw (add-zero) c.rest; some = omega arith }
+    record { fits = omega (arith, c.fits); payload = c.payload; rest = rw (add-zero) c.rest; some = omega arith }
 frame_at Len2 max x p more e =
     let c = counted_at w16 max x p more e in
-    record { from_is = refl; to_is = refl; end_is = refl; fits = omega (arith, c.fits); payload = c.payload; rest = rw (add-zero) c.rest; some = omega arith }
+    record { fits = omega (arith, c.fits); payload = c.payload; rest = rw (add-zero) c.rest; some = omega arith }
 frame_at Line max x p more e =
     let l = line_is max x p more e in
     let n = position_or_len is_line_feed x in
     let p_len : length p ≡ n = rw (← l.payload) (omega (arith, length-take n x, l.ends)) in
     record {
-      from_is = refl;
-      to_is = refl;
-      end_is = refl;
       fits = rw p_len (omega (arith, l.ends));
       payload = rw (p_len, zero-add, sub-zero) l.payload;
       rest = rw (p_len, zero-add) l.rest;

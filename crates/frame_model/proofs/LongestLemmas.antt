@@ -99,7 +99,7 @@ counted_again w limit wide max p more possible within =
       rest = rw (n_is, ← drop-drop n (byte_len w) (head ++ (p ++ more)), rest_is) (drop_at p more n refl);
     }))
 
--- ---- the bytes up to a line_feed
+-- ---- the bytes up to a line feed
 
 pub no_line_feed_len : (p : List ℕ) → IsNone (position is_line_feed p) → position_or_len is_line_feed p ≡ length p
 no_line_feed_len p none =

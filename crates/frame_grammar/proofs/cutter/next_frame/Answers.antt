@@ -1,3 +1,4 @@
+-- What stands at the front is the first payload of the cut, in each framing.
 use Rattle.std.proofs.Common.{sym, ◌∙◌}
 use Rattle.frame_model.specs.declared.framing.Framing.TheVariants.{Len4, Len2, Line}
 use Rattle.frame_grammar.proofs.AnswerLemmas.{first_is, told, short}
