@@ -2,71 +2,27 @@
 
 use crate::*;
 
+fn frame(from: u64, to: u64, end: u64) -> Cut {
+    Cut::Frame { from, to, end }
+}
+
+fn too_big(len: u64) -> Cut {
+    Cut::Bad(BadKind::TooBig { len })
+}
+
 #[test]
 fn next_frame_cuts_these_inputs(rt: HostRuntime) {
     let cases: [(Framing, u64, &[u8], bool, Cut); 30] = [
         (Framing::Len4, 65536, &[0, 0, 0], false, Cut::More),
         (Framing::Len4, 65536, &[0, 0, 0], true, Cut::Rest),
-        (
-            Framing::Len4,
-            1,
-            &[0, 0, 0, 2],
-            false,
-            Cut::Bad(BadKind::TooBig { len: 2 }),
-        ),
+        (Framing::Len4, 1, &[0, 0, 0, 2], false, too_big(2)),
         (Framing::Len4, 2, &[0, 0, 0, 2, 97], false, Cut::More),
-        (
-            Framing::Len2,
-            2,
-            &[0, 2, 97, 98, 99],
-            false,
-            Cut::Frame {
-                from: 2,
-                to: 4,
-                end: 4,
-            },
-        ),
+        (Framing::Len2, 2, &[0, 2, 97, 98, 99], false, frame(2, 4, 4)),
         (Framing::Line, 2, &[97, 98], false, Cut::More),
-        (
-            Framing::Line,
-            2,
-            &[97, 98],
-            true,
-            Cut::Frame {
-                from: 0,
-                to: 2,
-                end: 2,
-            },
-        ),
-        (
-            Framing::Line,
-            2,
-            &[97, 98, 99],
-            false,
-            Cut::Bad(BadKind::TooBig { len: 3 }),
-        ),
-        (
-            Framing::Line,
-            2,
-            &[97, 98, 10],
-            false,
-            Cut::Frame {
-                from: 0,
-                to: 2,
-                end: 3,
-            },
-        ),
-        (
-            Framing::Line,
-            0,
-            &[10],
-            false,
-            Cut::Frame {
-                from: 0,
-                to: 0,
-                end: 1,
-            },
-        ),
+        (Framing::Line, 2, &[97, 98], true, frame(0, 2, 2)),
+        (Framing::Line, 2, &[97, 98, 99], false, too_big(3)),
+        (Framing::Line, 2, &[97, 98, 10], false, frame(0, 2, 3)),
+        (Framing::Line, 0, &[10], false, frame(0, 0, 1)),
         (Framing::Line, 0, &[], true, Cut::End),
         // a counted frame
         (Framing::Len4, 2, &[], true, Cut::End),
@@ -75,90 +31,20 @@ fn next_frame_cuts_these_inputs(rt: HostRuntime) {
         (Framing::Len2, 2, &[], false, Cut::More),
         (Framing::Len2, 2, &[0], false, Cut::More),
         (Framing::Len2, 2, &[0], true, Cut::Rest),
-        (
-            Framing::Len2,
-            1,
-            &[0, 2, 97, 98],
-            true,
-            Cut::Bad(BadKind::TooBig { len: 2 }),
-        ),
+        (Framing::Len2, 1, &[0, 2, 97, 98], true, too_big(2)),
         (Framing::Len4, 2, &[0, 0, 0, 2, 97], true, Cut::Rest),
         (Framing::Len2, 2, &[0, 2, 97], false, Cut::More),
         (Framing::Len2, 2, &[0, 2, 97], true, Cut::Rest),
-        (
-            Framing::Len4,
-            2,
-            &[0, 0, 0, 2, 97, 98],
-            true,
-            Cut::Frame {
-                from: 4,
-                to: 6,
-                end: 6,
-            },
-        ),
-        (
-            Framing::Len4,
-            0,
-            &[0, 0, 0, 0],
-            false,
-            Cut::Frame {
-                from: 4,
-                to: 4,
-                end: 4,
-            },
-        ),
-        (
-            Framing::Len2,
-            255,
-            &[1, 0],
-            false,
-            Cut::Bad(BadKind::TooBig { len: 256 }),
-        ),
-        (
-            Framing::Len4,
-            u64::MAX,
-            &[255, 255, 255, 255],
-            true,
-            Cut::Rest,
-        ),
+        (Framing::Len4, 1, &[0, 0, 0, 1, 97], true, frame(4, 5, 5)),
+        (Framing::Len4, 0, &[0, 0, 0, 0], false, frame(4, 4, 4)),
+        (Framing::Len2, 255, &[1, 0], false, too_big(256)),
+        (Framing::Len2, u64::MAX, &[255, 255], true, Cut::Rest),
         // a line
         (Framing::Line, 2, &[], false, Cut::More),
-        (
-            Framing::Line,
-            2,
-            &[97, 98, 99, 10],
-            true,
-            Cut::Bad(BadKind::TooBig { len: 3 }),
-        ),
-        (
-            Framing::Line,
-            2,
-            &[13, 10, 10],
-            false,
-            Cut::Frame {
-                from: 0,
-                to: 1,
-                end: 2,
-            },
-        ),
-        (
-            Framing::Line,
-            0,
-            &[97],
-            true,
-            Cut::Bad(BadKind::TooBig { len: 1 }),
-        ),
-        (
-            Framing::Line,
-            u64::MAX,
-            &[97],
-            true,
-            Cut::Frame {
-                from: 0,
-                to: 1,
-                end: 1,
-            },
-        ),
+        (Framing::Line, 2, &[97, 98, 99, 10], true, too_big(3)),
+        (Framing::Line, 2, &[13, 10, 10], false, frame(0, 1, 2)),
+        (Framing::Line, 0, &[97], true, too_big(1)),
+        (Framing::Line, u64::MAX, &[97], true, frame(0, 1, 1)),
     ];
     for (at, (framing, max, bytes, at_end, want)) in cases.into_iter().enumerate() {
         assert_eq!(rt; next_frame(framing, max, bytes, at_end), want, "input {at}");
