@@ -1,19 +1,20 @@
 -- What stands first in the cut is what stands at the front.
-use Rattle.std.proofs.Common.{◌≡◌, ◌<◌, ◌+◌, ◌-◌, ℕ, arith, inl, inr, min, Bool, true, false, List, [], ◌∷◌, ◌++◌, length, take, drop, refl, sym, ap, ◌∙◌, zero-add}
+use Rattle.std.proofs.Common.{◌≡◌, ◌↔◌, ◌+◌, ℕ, arith, inl, inr, min, Bool, true, false, List, [], ◌∷◌, ◌++◌, length, drop, refl, sym, ap, ◌∙◌, zero-add}
 use Rattle.std.specs.Prelude.{slice_range}
 use Rattle.std.proofs.lemmas.List.{append-nil}
 use Rattle.std.proofs.Math.Nat.{sub-zero}
 use Rattle.std.proofs.Math.Seq.{take-length, drop-length}
 use Rattle.frame_model.specs.declared.framing.Framing.{Framing}
 use Rattle.frame_model.specs.declared.framing.Framing.TheVariants.{Len4, Len2, Line}
-use Rattle.frame_grammar.specs.declared.cutter.Cut.{Cut}
+use Rattle.frame_model.specs.declared.framing.BadKind.{BadKind}
 use Rattle.frame_grammar.specs.declared.cutter.Cut.TheVariants as cuts
-use Rattle.frame_model.specs.Spelling.{head_of, tail_of, spelling, longest_frame}
-use Rattle.frame_model.specs.Cut.{Front, Whole, Refused, Partial, front, last_line, verdict_on, cut, End, behind_frame, MayCome}
-use Rattle.frame_grammar.specs.Answers.{frame_of, first_of, first_in, answer_on, BeginsWithFrame, Tells}
+use Rattle.frame_model.specs.Spelling.{head_of, tail_of}
+use Rattle.frame_model.specs.Cut.{Front, Whole, Refused, Partial, front, last_line, verdict_on, cut, End, behind_frame, MayCome, IsRefused}
+use Rattle.frame_grammar.specs.Answers.{frame_of, first_of, first_in, answer_on, Tells}
 use Rattle.frame_model.proofs.FrontLemmas.{front_more, front_empty}
-use Rattle.frame_model.proofs.FrameLemmas.{LiesAtFront, frame_at, spelling_len, partial_short}
+use Rattle.frame_model.proofs.FrameLemmas.{frame_at, spelling_len}
 use Rattle.frame_model.proofs.CutLemmas.{cut_whole, cut_refused, cut_partial}
+use Rattle.frame_model.proofs.RefusedLemmas.{refused}
 
 partial_first : (f : Framing) (x : List ℕ) (at_end : Bool) → first_of f x (last_line f Partial at_end x) (verdict_on f Partial at_end 0 x) ≡ answer_on f x at_end Partial
 partial_first Len4 [] true = refl
@@ -90,11 +91,24 @@ told f max x at_end =
       | Partial ↦ λ e. rw e (partial_told f max x at_end e)
     ]) refl
 
--- more is wanted where there is less than a frame
-pub short : (f : Framing) (max : ℕ) (x : List ℕ) (at_end : Bool) → answer_on f x at_end (front f max x) ≡ cuts.More → length x < longest_frame f max
-short f max x at_end =
-    (elim (front f max x) as (λ v. front f max x ≡ v → answer_on f x at_end (front f max x) ≡ cuts.More → length x < longest_frame f max) [
-      | Whole p more ↦ λ e is. let no = rw e at is in absurd cc
-      | Refused kind ↦ λ e is. let no = rw e at is in absurd cc
-      | Partial ↦ λ e is. partial_short f max x e
-    ]) refl
+-- ---- no frame, however it goes on
+
+bad_is_refused : (f : Framing) (x : List ℕ) (at_end : Bool) (v : Front) (kind : BadKind) → answer_on f x at_end v ≡ cuts.Bad kind → v ≡ Refused kind
+bad_is_refused f x at_end (Refused k) kind e = cc
+bad_is_refused Len4 x at_end (Whole p more) kind e = absurd cc
+bad_is_refused Len2 x at_end (Whole p more) kind e = absurd cc
+bad_is_refused Line x at_end (Whole p more) kind e = absurd cc
+bad_is_refused Len4 x false Partial kind e = absurd cc
+bad_is_refused Len2 x false Partial kind e = absurd cc
+bad_is_refused Line x false Partial kind e = absurd cc
+bad_is_refused Len4 [] true Partial kind e = absurd cc
+bad_is_refused Len2 [] true Partial kind e = absurd cc
+bad_is_refused Line [] true Partial kind e = absurd cc
+bad_is_refused Len4 (b ∷ x) true Partial kind e = absurd cc
+bad_is_refused Len2 (b ∷ x) true Partial kind e = absurd cc
+bad_is_refused Line (b ∷ x) true Partial kind e = absurd cc
+
+pub bad : (f : Framing) (max : ℕ) (x : List ℕ) (at_end : Bool) (kind : BadKind) → (answer_on f x at_end (front f max x) ≡ cuts.Bad kind) ↔ IsRefused f max x kind
+bad f max x at_end kind =
+    let both = refused f max x kind in
+    (λ e. both.0 (bad_is_refused f x at_end (front f max x) kind e), λ h. rw (both.1 h) refl)

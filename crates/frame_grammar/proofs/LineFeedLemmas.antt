@@ -1,8 +1,8 @@
 -- The first line feed that a search finds is that of the definitions.
-use Rattle.std.proofs.Common.{◌≡◌, ◌<◌, ◌≤◌, ℕ, nat_lt, Some, None, Option, List, length, refl, sym, arith, inl, inr}
+use Rattle.std.proofs.Common.{◌≡◌, ℕ, nat_lt, Some, None, Option, List, length, refl, sym, arith, inl, inr}
 use Rattle.std.specs.List.{position, position_or_len}
-use Rattle.std.proofs.lemmas.Bool.{ltb-true, ltb-false, lt-ltb, le-ltb, cases_lt, false_from_ne_true}
-use Rattle.std.proofs.lemmas.List.Sums.{passes_at_first, fails_before_first, position_or_len_is}
+use Rattle.std.proofs.lemmas.Bool.{ltb-false, lt-ltb, le-ltb, cases_lt, false_from_ne_true}
+use Rattle.std.proofs.lemmas.List.Sums.{passes_at_first, position_or_len_is}
 use Rattle.memchr.specs.Find.{IsFirstByte, is_byte}
 use Rattle.frame_model.specs.Spelling.{is_line_feed}
 use Rattle.frame_model.proofs.FrontLemmas.{chosen, line_len_le}

@@ -14,13 +14,14 @@ frame_of f x p =
     let to = from + length p in
     cuts.Frame from to (min (to + length (tail_of f)) (length x))
 
--- the answer where there is no payload
+-- The answer where there is no payload.
 abbrev pub answer_of : Verdict → Cut
 answer_of Open = cuts.More
 answer_of End = cuts.End
 answer_of (Rest place) = cuts.Rest
 answer_of (Bad place kind) = cuts.Bad kind
 
+-- The answer of an input of which these are the payloads and this is the verdict.
 abbrev pub first_of : Framing → List ℕ → List (List ℕ) → Verdict → Cut
 first_of f x [] verdict = answer_of verdict
 first_of f x (p ∷ payloads) verdict = frame_of f x p
@@ -29,15 +30,19 @@ first_of f x (p ∷ payloads) verdict = frame_of f x p
 abbrev pub first_in : Framing → ℕ → List ℕ → Bool → Cut
 first_in f max x at_end = let c = cut f max x at_end in first_of f x c.payloads c.verdict
 
--- An input begins with a frame that ends at `end`. Whatever may come, the payload is cut first, and then what is behind the frame.
+-- An input begins with a frame that ends at `end`, and the frame's payload lies from `from` up to `to`.
 pub record BeginsWithFrame (f : Framing) (max : ℕ) (x : List ℕ) (at_end : Bool) (from to end : ℕ) : Type 0 where
+  -- The payload lies in the frame, and the frame in the input.
   pub ordered : (from ≤ to) × (to ≤ end) × (end ≤ length x)
+  -- The frame has a byte.
   pub some : 0 < end
+  -- The frame is as long as the payload is when it is spelt, or it is a last line, without a line feed.
   pub sized : (end ≡ length (spelling f (slice_range x from to))) ⊎ ((at_end ≡ true) × (end ≡ length x))
+  -- Whatever may come, `z`, this payload is cut first, and then all that stands behind its frame, with places moved by the frame's length.
   pub goes_on : (z : List ℕ) (b : Bool) → MayCome at_end z b →
       cut f max (x ++ z) b ≡ behind_frame (slice_range x from to) end (cut f max (drop end x ++ z) b)
 
--- What an answer says of an input.
+-- What an answer says of an input: that it begins with this frame, or that it has no payload and which verdict there is on it.
 abbrev pub Tells : Framing → ℕ → List ℕ → Bool → Cut → Type 0
 Tells f max x at_end (cuts.Frame from to end) = BeginsWithFrame f max x at_end from to end
 Tells f max x at_end cuts.More = cut f max x at_end ≡ record { payloads = []; verdict = Open }
@@ -45,7 +50,7 @@ Tells f max x at_end (cuts.Bad kind) = cut f max x at_end ≡ record { payloads 
 Tells f max x at_end cuts.Rest = cut f max x at_end ≡ record { payloads = []; verdict = Rest 0 }
 Tells f max x at_end cuts.End = cut f max x at_end ≡ record { payloads = []; verdict = End }
 
--- the answer from what stands at the front
+-- The answer from what stands at the front.
 abbrev pub answer_on : Framing → List ℕ → Bool → Front → Cut
 answer_on f x at_end (Whole p more) = frame_of f x p
 answer_on f x at_end (Refused kind) = cuts.Bad kind

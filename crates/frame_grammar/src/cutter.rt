@@ -1,8 +1,8 @@
 //! What stands first in a stream of bytes.
 
-ghost use Rattle.std.specs.Prelude.{◌≡◌, ◌<◌, length};
+ghost use Rattle.std.specs.Prelude.{◌≡◌, ◌<◌, ◌↔◌, length};
 ghost use Rattle.frame_model.specs.Spelling.{longest_frame};
-ghost use Rattle.frame_model.specs.Cut.{front, Partial};
+ghost use Rattle.frame_model.specs.Cut.{front, IsRefused, Partial};
 ghost use Rattle.frame_grammar.specs.Answers.{answer_on, first_in, Tells};
 
 use crate::line_feed::line_len;
@@ -27,8 +27,9 @@ pub enum Cut {
 /// `Bad` is always `TooBig`. Where more is wanted, there is less than one longest frame.
 pub fn next_frame(framing: Framing, max: u64, bytes: &[u8], at_end: bool) -> Cut
     ensures first { result ≡ first_in framing max bytes.now at_end }
-    // What the answer says of the input, and of all that may come behind it.
+    // The input is cut into this payload and what the rest is cut into, also with more behind it; or into no payload, and why.
     ensures told { Tells framing max bytes.now at_end result }
+    ensures bad { (kind : BadKind) → (result ≡ Cut.Bad kind) ↔ IsRefused framing max bytes.now kind }
     ensures short { result ≡ Cut.More → length bytes.now < longest_frame framing max }
 {
     match framing {

@@ -5,6 +5,8 @@ mod affix;
 mod cutter;
 mod line_feed;
 mod spelling;
+#[cfg(test)]
+mod tests;
 
 pub use affix::Affix;
 pub use cutter::{Cut, next_frame};

@@ -1,12 +1,11 @@
 -- How an input is cut, by what stands at its front.
-use Rattle.std.proofs.Common.{◌≡◌, ◌+◌, ℕ, Bool, true, false, List, [], ◌∷◌, ◌++◌, length, refl, ap, arith}
+use Rattle.std.proofs.Common.{◌≡◌, ◌+◌, ℕ, Bool, true, false, List, [], ◌∷◌, length, refl}
 use Rattle.std.proofs.lemmas.List.{length-append}
 use Rattle.frame_model.specs.declared.framing.Framing.{Framing}
 use Rattle.frame_model.specs.declared.framing.Framing.TheVariants.{Len4, Len2, Line}
 use Rattle.frame_model.specs.declared.framing.BadKind.{BadKind}
 use Rattle.frame_model.specs.Spelling.{spelling, text}
-use Rattle.frame_model.specs.Cut.{Front, Whole, Refused, Partial, front, frames, Open, End, Rest, Bad, last_line, verdict_on, cut, moved, behind_frame}
-use Rattle.frame_model.proofs.FrontLemmas.{front_more}
+use Rattle.frame_model.specs.Cut.{Front, Whole, Refused, Partial, front, frames, Bad, last_line, verdict_on, cut, moved, behind_frame}
 use Rattle.frame_model.proofs.FramesLemmas.{frames_whole, frames_refused, frames_partial}
 use Rattle.frame_model.proofs.TranslationLemmas.{no_last_refused}
 

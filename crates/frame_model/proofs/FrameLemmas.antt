@@ -1,21 +1,18 @@
--- Where the frame at the front of an input lies, and how long an input can be that has none.
-use Rattle.std.proofs.Common.{◌≡◌, ◌<◌, ◌≤◌, ◌+◌, ◌-◌, ℕ, nat_lt, nat_le, ◌&&◌, List, [], ◌∷◌, ◌++◌, length, take, drop, refl, sym, ap, ◌∙◌, arith, inl, inr, ◌⊎◌, add-zero, zero-add}
+-- Where the frame at the front of an input lies.
+use Rattle.std.proofs.Common.{◌≡◌, ◌<◌, ◌≤◌, ◌+◌, ◌-◌, ℕ, List, ◌++◌, length, take, drop, arith, add-zero, zero-add}
 use Rattle.std.specs.Prelude.{slice_range}
 use Rattle.std.specs.List.{position_or_len}
 use Rattle.std.specs.Int.{Width, w16, w32, byte_len}
-use Rattle.std.proofs.lemmas.Bool.{ltb-true, ltb-false, leb-false, and_cases}
 use Rattle.std.proofs.lemmas.List.{length-append, length-take, length-drop}
 use Rattle.std.proofs.Math.Nat.{sub-zero}
 use Rattle.frame_model.specs.declared.framing.Framing.{Framing}
 use Rattle.frame_model.specs.declared.framing.Framing.TheVariants.{Len4, Len2, Line}
-use Rattle.frame_model.specs.Spelling.{is_line_feed, head_of, tail_of, spelling, longest_frame}
-use Rattle.frame_model.specs.Cut.{Whole, Refused, Partial, front, counted_front, line_front}
-use Rattle.frame_model.proofs.FrontLemmas.{chosen, counted_is, line_is, line_len_le, number_of}
+use Rattle.frame_model.specs.Spelling.{is_line_feed, head_of, tail_of, spelling}
+use Rattle.frame_model.specs.Cut.{Whole, front, counted_front}
+use Rattle.frame_model.proofs.FrontLemmas.{counted_is, line_is, number_of}
 
+-- a payload and what follows its frame, where the frame stands at the front
 pub record LiesAtFront (f : Framing) (x p more : List ℕ) (from to end : ℕ) : Type 0 where
-  pub from_is : from ≡ length (head_of f (length p))
-  pub to_is : to ≡ from + length p
-  pub end_is : end ≡ to + length (tail_of f)
   pub fits : end ≤ length x
   pub payload : slice_range x from to ≡ p
   pub rest : drop end x ≡ more
@@ -38,18 +35,15 @@ pub frame_at : (f : Framing) (max : ℕ) (x p more : List ℕ) → front f max x
     → LiesAtFront f x p more (length (head_of f (length p))) (length (head_of f (length p)) + length p) (length (head_of f (length p)) + length p + length (tail_of f))
 frame_at Len4 max x p more e =
     let c = counted_at w32 max x p more e in
-    record { from_is = refl; to_is = refl; end_is = refl; fits = omega (arith, c.fits); payload = c.payload; rest = rw (add-zero) c.rest; some = omega arith }
+    record { fits = omega (arith, c.fits); payload = c.payload; rest = rw (add-zero) c.rest; some = omega arith }
 frame_at Len2 max x p more e =
     let c = counted_at w16 max x p more e in
-    record { from_is = refl; to_is = refl; end_is = refl; fits = omega (arith, c.fits); payload = c.payload; rest = rw (add-zero) c.rest; some = omega arith }
+    record { fits = omega (arith, c.fits); payload = c.payload; rest = rw (add-zero) c.rest; some = omega arith }
 frame_at Line max x p more e =
     let l = line_is max x p more e in
     let n = position_or_len is_line_feed x in
     let p_len : length p ≡ n = rw (← l.payload) (omega (arith, length-take n x, l.ends)) in
     record {
-      from_is = refl;
-      to_is = refl;
-      end_is = refl;
       fits = rw p_len (omega (arith, l.ends));
       payload = rw (p_len, zero-add, sub-zero) l.payload;
       rest = rw (p_len, zero-add) l.rest;
@@ -58,32 +52,3 @@ frame_at Line max x p more e =
 
 pub spelling_len : (f : Framing) (p : List ℕ) → length (spelling f p) ≡ length (head_of f (length p)) + length p + length (tail_of f)
 spelling_len f p = omega (arith, length-append (head_of f (length p) ++ p) (tail_of f), length-append (head_of f (length p)) p)
-
-counted_short : (w : Width) (max : ℕ) (x : List ℕ) → counted_front w max x ≡ Partial → length x < byte_len w + max + 0 ⊎ length x < byte_len w
-counted_short w max x e =
-    elim (chosen (nat_lt (length x) (byte_len w)) _ _ _ e) [
-      | inl a ↦ inr (ltb-true _ _ a.0)
-      | inr a ↦ elim (chosen (nat_lt max (number_of w x)) _ _ _ a.1) [
-        | inl b ↦ absurd cc
-        | inr b ↦ elim (chosen (nat_lt (length x) (byte_len w + number_of w x)) _ _ _ b.1) [
-          | inl c ↦ inl (omega (arith, ltb-true _ _ c.0, ltb-false _ _ b.0))
-          | inr c ↦ absurd cc
-        ]
-      ]
-    ]
-
-line_short : (max : ℕ) (x : List ℕ) → line_front max x ≡ Partial → length x ≤ max
-line_short max x e =
-    elim (chosen (nat_lt (position_or_len is_line_feed x) (length x) && nat_le (position_or_len is_line_feed x) max) _ _ _ e) [
-      | inl a ↦ absurd cc
-      | inr a ↦ elim (chosen (nat_lt max (length x)) _ _ _ a.1) [
-        | inl b ↦ absurd cc
-        | inr b ↦ ltb-false _ _ b.0
-      ]
-    ]
-
--- an input that begins with less than a frame is shorter than the longest one
-pub partial_short : (f : Framing) (max : ℕ) (x : List ℕ) → front f max x ≡ Partial → length x < longest_frame f max
-partial_short Len4 max x e = elim (counted_short w32 max x e) [ inl h ↦ h | inr h ↦ omega (arith, h) ]
-partial_short Len2 max x e = elim (counted_short w16 max x e) [ inl h ↦ h | inr h ↦ omega (arith, h) ]
-partial_short Line max x e = omega (arith, line_short max x e)

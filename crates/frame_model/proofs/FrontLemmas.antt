@@ -77,9 +77,9 @@ counted_refused_more w max x z kind e =
     let c = counted_refused w max x kind e in
     rw (le-ltb (length (x ++ z)) (byte_len w) (omega (arith, length-append x z, c.0)), number_more w x z c.0, lt-ltb max (number_of w x) c.1, c.2) refl
 
--- ---- the bytes up to a line_feed
+-- ---- the bytes up to a line feed
 
-abbrev line_len : List ℕ → ℕ
+abbrev pub line_len : List ℕ → ℕ
 line_len x = position_or_len is_line_feed x
 
 pub line_len_le : (x : List ℕ) → line_len x ≤ length x

@@ -5,3 +5,5 @@ pub mod LongestLemmas
 pub mod SpellingLemmas
 pub mod CutLemmas
 pub mod FrameLemmas
+pub mod RefusedLemmas
+pub mod EndLemmas

@@ -1,5 +1,5 @@
 -- The frames that a cut finds are those that the payloads spell, and there are no more.
-use Rattle.std.proofs.Common.{◌≡◌, ◌<◌, ◌≤◌, ◌+◌, ◌^◌, ◌-◌, ℕ, zero, suc, cond, nat_lt, List, [], ◌∷◌, ◌++◌, length, take, drop, get_or, refl, sym, ap, subst, ◌∙◌, arith, inl, inr, append_assoc, Some, None}
+use Rattle.std.proofs.Common.{◌≡◌, ◌≢◌, ◌<◌, ◌≤◌, ◌+◌, ◌^◌, ◌-◌, ℕ, zero, suc, cond, nat_lt, List, [], ◌∷◌, ◌++◌, length, take, drop, get_or, refl, sym, ap, subst, ◌∙◌, arith, inl, inr, append_assoc, Some, None}
 use Rattle.std.specs.Prelude.{IsNone, position}
 use Rattle.std.specs.List.{position_or_len}
 use mathlib.Core.List.{IsPrefix}
@@ -12,7 +12,7 @@ use Rattle.frame_model.specs.declared.framing.Framing.{Framing}
 use Rattle.frame_model.specs.declared.framing.Framing.TheVariants.{Len4, Len2, Line}
 use Rattle.frame_model.specs.Spelling.{is_line_feed, obstacle, spelling, text}
 use Rattle.frame_model.specs.Cut.{Whole, Refused, Partial, front, counted_front, line_front, frames, BeginsWith, IsBytes}
-use Rattle.frame_model.proofs.FrontLemmas.{counted_is, counted_from, line_is, line_from, front_shorter, line_len_le}
+use Rattle.frame_model.proofs.FrontLemmas.{counted_is, counted_from, line_is, line_from, front_shorter, front_empty, line_len_le}
 use Rattle.frame_model.proofs.FramesLemmas.{frames_whole, frames_refused, frames_partial}
 
 bytes_drop : (n : ℕ) (x : List ℕ) → IsBytes x → IsBytes (drop n x)
@@ -99,7 +99,7 @@ counted_again w limit wide max p more possible within =
       rest = rw (n_is, ← drop-drop n (byte_len w) (head ++ (p ++ more)), rest_is) (drop_at p more n refl);
     }))
 
--- ---- the bytes up to a line_feed
+-- ---- the bytes up to a line feed
 
 pub no_line_feed_len : (p : List ℕ) → IsNone (position is_line_feed p) → position_or_len is_line_feed p ≡ length p
 no_line_feed_len p none =
@@ -195,3 +195,21 @@ longest f max x (p ∷ payloads) rest b =
     let at_front : front f max x ≡ Whole p more = rw parts (front_again f max p more b.each.0.0 b.each.0.1) in
     let then = longest f max more payloads rest (record { each = b.each.1; parts = refl }) in
     rw (frames_whole f max x p more at_front) (then.0, ap (λ (o : List (List ℕ)). p ∷ o) then.1)
+
+-- ---- and no more
+
+no_more_within : (most : ℕ) (f : Framing) (max : ℕ) (x p more : List ℕ) → length x ≤ most → front f max (frames f max x).1 ≢ Whole p more
+no_more_within zero f max [] p more h = λ e. let nothing = front_empty f max in cc
+no_more_within zero f max (y ∷ x) p more h = absurd (omega arith)
+no_more_within (suc most) f max x p more h =
+    (elim (front f max x) as (λ v. front f max x ≡ v → front f max (frames f max x).1 ≢ Whole p more) [
+      | Whole first then ↦ λ e.
+          let shorter = front_shorter f max x first then e in
+          subst (λ (o : List (List ℕ) × List ℕ). front f max o.1 ≢ Whole p more) (sym (frames_whole f max x first then e)) (no_more_within most f max then p more (omega arith))
+      | Refused kind ↦ λ e. subst (λ (o : List (List ℕ) × List ℕ). front f max o.1 ≢ Whole p more) (sym (frames_refused f max x kind e)) (λ whole. cc)
+      | Partial ↦ λ e. subst (λ (o : List (List ℕ) × List ℕ). front f max o.1 ≢ Whole p more) (sym (frames_partial f max x e)) (λ whole. cc)
+    ]) refl
+
+-- behind the whole frames there is none
+pub no_more : (f : Framing) (max : ℕ) (x p more : List ℕ) → front f max (frames f max x).1 ≢ Whole p more
+no_more f max x p more = no_more_within (length x) f max x p more (omega arith)

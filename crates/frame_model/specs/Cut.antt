@@ -1,5 +1,5 @@
 -- How an input is cut into frames.
-use Rattle.std.specs.Prelude.{ℕ, zero, suc, ◌≡◌, ◌+◌, ◌≤◌, ◌<◌, nat_lt, nat_le, ◌&&◌, Bool, true, false, List, [], ◌∷◌, ◌++◌, length, take, drop, slice_index, IsNone, if◌then◌else◌}
+use Rattle.std.specs.Prelude.{ℕ, zero, suc, ◌≡◌, ◌≢◌, ◌+◌, ◌≤◌, ◌<◌, nat_lt, nat_le, ◌&&◌, Bool, true, false, List, [], ◌∷◌, ◌++◌, length, take, drop, slice_index, IsNone, if◌then◌else◌}
 use Rattle.std.specs.List.{position_or_len, AllByRecursion}
 use Rattle.std.specs.Int.{Width, w16, w32, byte_len, from_be_bytes}
 use Rattle.frame_model.specs.declared.framing.Framing.{Framing}
@@ -15,7 +15,7 @@ pub data Front : Type 0 where
   Refused : BadKind → Front
   Partial : Front
 
--- a number of this width, and that many bytes
+-- A number of this width, and that many bytes.
 abbrev pub counted_front : Width → ℕ → List ℕ → Front
 counted_front w max x =
     let n = from_be_bytes w (take (byte_len w) x) in
@@ -24,7 +24,7 @@ counted_front w max x =
     else if nat_lt (length x) (byte_len w + n) then Partial
     else Whole (take n (drop (byte_len w) x)) (drop (byte_len w + n) x)
 
--- the bytes up to a line feed
+-- The bytes up to a line feed.
 abbrev pub line_front : ℕ → List ℕ → Front
 line_front max x =
     let n = position_or_len is_line_feed x in
@@ -32,6 +32,7 @@ line_front max x =
     else if nat_lt max (length x) then Refused (TooBig (max + 1))
     else Partial
 
+-- What stands at the front, by the framing.
 abbrev pub front : Framing → ℕ → List ℕ → Front
 front Len4 max x = counted_front w32 max x
 front Len2 max x = counted_front w16 max x
@@ -46,6 +47,7 @@ frames_within (suc most) f max x = elim (front f max x) [
   | Partial ↦ ([], x)
 ]
 
+-- The same without a bound on how many there are.
 abbrev pub frames : Framing → ℕ → List ℕ → List (List ℕ) × List ℕ
 frames f max x = frames_within (length x) f max x
 
@@ -57,15 +59,17 @@ pub data Verdict : Type 0 where
   Rest : ℕ → Verdict
   Bad : ℕ → BadKind → Verdict
 
+-- The payloads of an input, and the verdict on it.
 pub record Cutting : Type 0 where
   pub payloads : List (List ℕ)
   pub verdict : Verdict
 
--- at the end of the input, a line need not be ended
+-- At the end of the input, a line need not be ended: the rest is a payload then.
 abbrev pub last_line : Framing → Front → Bool → List ℕ → List (List ℕ)
 last_line Line Partial true (b ∷ rest) = (b ∷ rest) ∷ []
 last_line f before at_end rest = []
 
+-- The verdict, from what stands at the front of a rest that begins at a place.
 abbrev pub verdict_on : Framing → Front → Bool → ℕ → List ℕ → Verdict
 verdict_on f (Refused kind) at_end place rest = Bad place kind
 verdict_on f before false place rest = Open
@@ -90,11 +94,31 @@ pub record BeginsWith (f : Framing) (max : ℕ) (x : List ℕ) (payloads : List 
   pub each : AllByRecursion (λ p. (length p ≤ max) × IsNone (obstacle f p)) payloads
   pub parts : x ≡ text f payloads ++ rest
 
+-- Each number is a byte.
 abbrev pub IsBytes : List ℕ → Type 0
 IsBytes x = (k : ℕ) → slice_index x k < 256
 
+-- An input begins with a whole head, which tells more than `max` bytes.
+pub record HasTooGreatHead (w : Width) (max : ℕ) (x : List ℕ) (kind : BadKind) : Type 0 where
+  pub whole : byte_len w ≤ length x
+  pub too_great : max < from_be_bytes w (take (byte_len w) x)
+  pub told : kind ≡ TooBig (from_be_bytes w (take (byte_len w) x))
+
+-- An input begins with more than `max` bytes of a line, wherever the line ends.
+pub record HasTooLongLine (max : ℕ) (x : List ℕ) (kind : BadKind) : Type 0 where
+  pub longer : max < length x
+  pub unended : (k : ℕ) → k ≤ max → slice_index x k ≢ 10
+  pub told : kind ≡ TooBig (max + 1)
+
+-- No frame with a payload of at most `max` bytes stands at the front, however the input goes on.
+abbrev pub IsRefused : Framing → ℕ → List ℕ → BadKind → Type 0
+IsRefused Len4 max x kind = HasTooGreatHead w32 max x kind
+IsRefused Len2 max x kind = HasTooGreatHead w16 max x kind
+IsRefused Line max x kind = HasTooLongLine max x kind
+
 -- ---- an input behind a frame
 
+-- The verdict on an input behind n bytes.
 abbrev pub moved : ℕ → Verdict → Verdict
 moved n Open = Open
 moved n End = End

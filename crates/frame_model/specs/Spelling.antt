@@ -5,6 +5,7 @@ use Rattle.std.specs.Int.{w16, w32, to_be_bytes}
 use Rattle.frame_model.specs.declared.framing.Framing.{Framing}
 use Rattle.frame_model.specs.declared.framing.Framing.TheVariants.{Len4, Len2, Line}
 
+-- The byte that ends a line.
 abbrev pub is_line_feed : ℕ → Bool
 is_line_feed b = b == 10
 
@@ -40,7 +41,7 @@ Fits Len4 n = n < 2 ^ 32
 Fits Len2 n = n < 2 ^ 16
 Fits Line n = ⊤
 
--- The index of the first byte for which a payload has no frame.
+-- The index of the first byte for which a payload has no frame, or nothing where it has one.
 abbrev pub obstacle : Framing → List ℕ → Option ℕ
 obstacle Len4 p = if nat_lt (length p) (2 ^ 32) then None else Some (2 ^ 32 - 1)
 obstacle Len2 p = if nat_lt (length p) (2 ^ 16) then None else Some (2 ^ 16 - 1)

@@ -14,4 +14,7 @@ pub use cases::{
 pub use ending::{FillEnd, Outcome};
 pub use framing::{BadKind, Framing};
 pub use job::Job;
-pub use laws::{bad_stays_bad, cut_is_longest, spelling_in_words, text_only_grows};
+pub use laws::{
+    bad_stays_bad, cut_is_longest, open_until_the_end, refused_in_words, spelling_in_words,
+    text_only_grows,
+};

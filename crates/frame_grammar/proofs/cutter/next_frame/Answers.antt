@@ -1,6 +1,7 @@
-use Rattle.std.proofs.Common.{sym, ◌∙◌}
+-- What stands at the front is the first payload of the cut, in each framing.
+use Rattle.std.proofs.Common.{sym}
 use Rattle.frame_model.specs.declared.framing.Framing.TheVariants.{Len4, Len2, Line}
-use Rattle.frame_grammar.proofs.AnswerLemmas.{first_is, told, short}
+use Rattle.frame_grammar.proofs.AnswerLemmas.{first_is, told, bad}
 use Rattle.frame_grammar.proofs.cutter.next_frame.Goals as goal
 
 pub returns-in-Len4-clause-told : goal.returns-in-Len4-clause-told
@@ -14,3 +15,6 @@ returns-in-Line-clause-told c = rw (c.in-Line.is, c.line.ensures) (told Line c.a
 
 pub returns-in-Line-clause-first : goal.returns-in-Line-clause-first
 returns-in-Line-clause-first c = rw (c.in-Line.is, c.line.ensures) (sym (first_is Line c.args.max c.args.bytes.now c.args.at_end))
+
+pub returns-in-Line-clause-bad : goal.returns-in-Line-clause-bad
+returns-in-Line-clause-bad c = rw (c.in-Line.is, c.line.ensures) (bad Line c.args.max c.args.bytes.now c.args.at_end)

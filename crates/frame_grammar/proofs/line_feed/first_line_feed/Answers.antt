@@ -1,3 +1,4 @@
+-- The search finds the first line feed.
 use Rattle.frame_grammar.proofs.LineFeedLemmas.{found}
 use Rattle.frame_grammar.proofs.line_feed.first_line_feed.Goals as goal
 

@@ -1,3 +1,4 @@
+-- Where a line feed is found, and where there is none.
 use Rattle.frame_grammar.proofs.LineFeedLemmas.{some_position, no_position}
 use Rattle.frame_grammar.proofs.line_feed.line_len.Goals as goal
 

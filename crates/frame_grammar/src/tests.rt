@@ -1,0 +1,90 @@
+//! What the functions answer on known inputs.
+
+use crate::*;
+
+fn frame(from: u64, to: u64, end: u64) -> Cut {
+    Cut::Frame { from, to, end }
+}
+
+fn too_big(len: u64) -> Cut {
+    Cut::Bad(BadKind::TooBig { len })
+}
+
+#[test]
+fn next_frame_cuts_these_inputs(rt: HostRuntime) {
+    let cases: [(Framing, u64, &[u8], bool, Cut); 30] = [
+        (Framing::Len4, 65536, &[0, 0, 0], false, Cut::More),
+        (Framing::Len4, 65536, &[0, 0, 0], true, Cut::Rest),
+        (Framing::Len4, 1, &[0, 0, 0, 2], false, too_big(2)),
+        (Framing::Len4, 2, &[0, 0, 0, 2, 97], false, Cut::More),
+        (Framing::Len2, 2, &[0, 2, 97, 98, 99], false, frame(2, 4, 4)),
+        (Framing::Line, 2, &[97, 98], false, Cut::More),
+        (Framing::Line, 2, &[97, 98], true, frame(0, 2, 2)),
+        (Framing::Line, 2, &[97, 98, 99], false, too_big(3)),
+        (Framing::Line, 2, &[97, 98, 10], false, frame(0, 2, 3)),
+        (Framing::Line, 0, &[10], false, frame(0, 0, 1)),
+        (Framing::Line, 0, &[], true, Cut::End),
+        // a counted frame
+        (Framing::Len4, 2, &[], true, Cut::End),
+        (Framing::Len2, 2, &[], true, Cut::End),
+        (Framing::Len4, 2, &[], false, Cut::More),
+        (Framing::Len2, 2, &[], false, Cut::More),
+        (Framing::Len2, 2, &[0], false, Cut::More),
+        (Framing::Len2, 2, &[0], true, Cut::Rest),
+        (Framing::Len2, 1, &[0, 2, 97, 98], true, too_big(2)),
+        (Framing::Len4, 2, &[0, 0, 0, 2, 97], true, Cut::Rest),
+        (Framing::Len2, 2, &[0, 2, 97], false, Cut::More),
+        (Framing::Len2, 2, &[0, 2, 97], true, Cut::Rest),
+        (Framing::Len4, 1, &[0, 0, 0, 1, 97], true, frame(4, 5, 5)),
+        (Framing::Len4, 0, &[0, 0, 0, 0], false, frame(4, 4, 4)),
+        (Framing::Len2, 255, &[1, 0], false, too_big(256)),
+        (Framing::Len2, u64::MAX, &[255, 255], true, Cut::Rest),
+        // a line
+        (Framing::Line, 2, &[], false, Cut::More),
+        (Framing::Line, 2, &[97, 98, 99, 10], true, too_big(3)),
+        (Framing::Line, 2, &[13, 10, 10], false, frame(0, 1, 2)),
+        (Framing::Line, 0, &[97], true, too_big(1)),
+        (Framing::Line, u64::MAX, &[97], true, frame(0, 1, 1)),
+    ];
+    for (at, (framing, max, bytes, at_end, want)) in cases.into_iter().enumerate() {
+        assert_eq!(rt; next_frame(framing, max, bytes, at_end), want, "input {at}");
+    }
+}
+
+#[test]
+fn can_spell_refuses_a_line_feed_and_a_length_too_many(rt: HostRuntime) {
+    let long = [97; 65536];
+    assert_eq!(rt; can_spell(Framing::Len4, &long), Ok(()));
+    assert_eq!(rt; can_spell(Framing::Len2, &long[..65535]), Ok(()));
+    assert_eq!(rt;
+        can_spell(Framing::Len2, &long),
+        Err(BadKind::Unspellable { at: 65535 })
+    );
+    assert_eq!(rt; can_spell(Framing::Line, &long), Ok(()));
+    assert_eq!(rt;
+        can_spell(Framing::Line, b"a\n\n"),
+        Err(BadKind::Unspellable { at: 1 })
+    );
+}
+
+#[test]
+fn heads_and_tails(rt: HostRuntime) {
+    let heads: [(Framing, u64, &[u8]); 5] = [
+        (Framing::Len4, 65535, &[0, 0, 255, 255]),
+        (Framing::Len4, 65536, &[0, 1, 0, 0]),
+        (Framing::Len2, 2, &[0, 2]),
+        (Framing::Len2, 65535, &[255, 255]),
+        (Framing::Line, 65536, &[]),
+    ];
+    for (framing, len, want) in heads {
+        assert_eq!(rt; spell_head(framing, len).bytes(), want, "{len}");
+    }
+    let tails: [(Framing, &[u8]); 3] = [
+        (Framing::Len4, &[]),
+        (Framing::Len2, &[]),
+        (Framing::Line, &[10]),
+    ];
+    for (framing, want) in tails {
+        assert_eq!(rt; spell_tail(framing).bytes(), want);
+    }
+}

@@ -1,0 +1,74 @@
+-- Which verdicts an input can have at its end, and which before it.
+use Rattle.std.proofs.Common.{◌≢◌, ℕ, true, false, List, [], ◌∷◌, length}
+use Rattle.frame_model.specs.declared.framing.Framing.{Framing}
+use Rattle.frame_model.specs.declared.framing.Framing.TheVariants.{Len4, Len2, Line}
+use Rattle.frame_model.specs.declared.framing.BadKind.{BadKind}
+use Rattle.frame_model.specs.declared.job.Job.{Job}
+use Rattle.frame_model.specs.Spelling.{text}
+use Rattle.frame_model.specs.Cut.{Front, Whole, Refused, Partial, front, frames, Verdict, Open, End, Rest, Bad, verdict_on, cut}
+use Rattle.frame_model.specs.Translation.{spellable, from_unspellable, verdict_at, translation}
+
+-- ---- at the end
+
+cut_not_open : (f : Framing) (before : Front) (place : ℕ) (rest : List ℕ) → verdict_on f before true place rest ≢ Open
+cut_not_open f (Refused kind) place rest e = cc
+cut_not_open Len4 (Whole p more) place [] e = cc
+cut_not_open Len2 (Whole p more) place [] e = cc
+cut_not_open Line (Whole p more) place [] e = cc
+cut_not_open Len4 (Whole p more) place (b ∷ rest) e = cc
+cut_not_open Len2 (Whole p more) place (b ∷ rest) e = cc
+cut_not_open Line (Whole p more) place (b ∷ rest) e = cc
+cut_not_open Len4 Partial place [] e = cc
+cut_not_open Len2 Partial place [] e = cc
+cut_not_open Line Partial place [] e = cc
+cut_not_open Len4 Partial place (b ∷ rest) e = cc
+cut_not_open Len2 Partial place (b ∷ rest) e = cc
+cut_not_open Line Partial place (b ∷ rest) e = cc
+
+-- what can't be spelt is bad, so it is none of these
+no_other_at : (output : Framing) (place : ℕ) (left : List (List ℕ)) (v w : Verdict) → ((at : ℕ) (kind : BadKind) → Bad at kind ≢ w) → v ≢ w → verdict_at output place left v ≢ w
+no_other_at output place [] v w other differs = differs
+no_other_at output place (p ∷ left) v w other differs = other _ _
+
+abbrev left_of : Job → List (List ℕ) → List (List ℕ)
+left_of job payloads = from_unspellable job.output payloads
+
+abbrev place_of : Job → List (List ℕ) → ℕ
+place_of job payloads = length (text job.input (spellable job.output payloads))
+
+pub not_open : (job : Job) (x : List ℕ) → (translation job x true).verdict ≢ Open
+not_open job x =
+    let c = cut job.input job.max x true in
+    let rest = (frames job.input job.max x).1 in
+    no_other_at job.output (place_of job c.payloads) (left_of job c.payloads) c.verdict Open (λ at kind e. cc) (cut_not_open job.input (front job.input job.max rest) _ rest)
+
+-- ---- before the end
+
+record IsOpenOrBad (v : Verdict) : Type 0 where
+  pub no_end : v ≢ End
+  pub no_rest : (place : ℕ) → v ≢ Rest place
+
+open_is : IsOpenOrBad Open
+open_is = record { no_end = λ e. cc; no_rest = λ place e. cc }
+
+cut_open_or_bad : (f : Framing) (before : Front) (place : ℕ) (rest : List ℕ) → IsOpenOrBad (verdict_on f before false place rest)
+cut_open_or_bad f (Refused kind) place rest = record { no_end = λ e. cc; no_rest = λ at e. cc }
+cut_open_or_bad Len4 (Whole p more) place rest = open_is
+cut_open_or_bad Len2 (Whole p more) place rest = open_is
+cut_open_or_bad Line (Whole p more) place rest = open_is
+cut_open_or_bad Len4 Partial place rest = open_is
+cut_open_or_bad Len2 Partial place rest = open_is
+cut_open_or_bad Line Partial place rest = open_is
+
+before_end : (job : Job) (x : List ℕ) → IsOpenOrBad (cut job.input job.max x false).verdict
+before_end job x = let rest = (frames job.input job.max x).1 in cut_open_or_bad job.input (front job.input job.max rest) _ rest
+
+pub no_end : (job : Job) (x : List ℕ) → (translation job x false).verdict ≢ End
+no_end job x =
+    let c = cut job.input job.max x false in
+    no_other_at job.output (place_of job c.payloads) (left_of job c.payloads) c.verdict End (λ at kind e. cc) (before_end job x).no_end
+
+pub no_rest : (job : Job) (x : List ℕ) (place : ℕ) → (translation job x false).verdict ≢ Rest place
+no_rest job x place =
+    let c = cut job.input job.max x false in
+    no_other_at job.output (place_of job c.payloads) (left_of job c.payloads) c.verdict (Rest place) (λ at kind e. cc) ((before_end job x).no_rest place)
