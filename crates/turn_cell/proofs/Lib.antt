@@ -1,0 +1,4 @@
+pub mod HistoryLemmas
+pub mod MeetingLemmas
+pub mod SeatLemmas
+pub mod StepLemmas

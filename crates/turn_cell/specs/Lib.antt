@@ -1,0 +1,4 @@
+pub mod History
+pub mod Lending
+pub mod Rule
+pub mod Seat
