@@ -1,4 +1,5 @@
 pub mod HistoryLemmas
 pub mod MeetingLemmas
+pub mod NumberLemmas
 pub mod SeatLemmas
 pub mod StepLemmas

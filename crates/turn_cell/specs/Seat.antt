@@ -37,6 +37,10 @@ module _ {E N : Type 0} where
     pub table : seat.table ≡ cell.table
     pub named : seat.name ≡ Some cell.name
 
+  -- The seat is one of this cell's, and doesn't hold the turn.
+  abbrev pub IsIdle : CellState N → SeatState E N → Type 0
+  IsIdle cell seat = IsOf cell seat × (seat.holds ≡ false)
+
   -- a seat that has seen nothing and made nothing
   abbrev pub new_seat : CellState N → ℕ → SeatState E N
   new_seat cell number = record { table = cell.table; name = Some cell.name; number = number; seen = []; own = []; holds = false; exchanges = 0; last = 0; joined = []; past = [] }

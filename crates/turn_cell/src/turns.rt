@@ -1,7 +1,7 @@
 //! Taking the turn and giving it up, and how seats meet.
 
-ghost use Rattle.std.specs.Prelude.{◌≡◌, ◌≤◌, ◌+◌, ◌^◌, ◌%◌, ◌↔◌, true, false, length, IsErr, IfOk, IfErr};
-ghost use Rattle.turn_cell.specs.Seat.{IsOf, Takes, Closes, HasTakenInAll, after_find, after_put, after_join};
+ghost use Rattle.std.specs.Prelude.{◌≡◌, ◌≤◌, ◌+◌, ◌^◌, ◌%◌, ◌↔◌, true, length, IsErr, IfOk, IfErr};
+ghost use Rattle.turn_cell.specs.Seat.{IsOf, IsIdle, Takes, Closes, HasTakenInAll, after_find, after_put, after_join};
 
 use crate::cell::{Busy, TurnCell};
 use crate::held::Held;
@@ -12,8 +12,7 @@ use crate::stands::{Adds, Stands};
 impl<S: Stands> TurnCell<S> {
     /// Takes the turn where it is free. It makes one exchange, decides by what that found, and waits for nobody.
     pub fn try_take(&self, seat: &mut TurnSeat<S>) -> Result<Held<S>, Busy>
-        requires seat { IsOf self.now seat.old }
-        requires free { seat.old.holds ≡ false }
+        requires { IsIdle self.now seat.old }
         ensures seat { IsOf self.now seat.new }
         ensures one_exchange { seat.new.exchanges ≡ seat.old.exchanges + 1 }
         ensures busy_exactly { IsErr result ↔ (seat.new.last % 2 ≡ 1) }
@@ -60,8 +59,8 @@ impl<S: Stands> TurnCell<S> {
 
     /// One seat takes in another, with its entries, its number and all that it had seen.
     pub fn join(&self, into: &mut TurnSeat<S>, from: TurnSeat<S>)
-        requires into { IsOf self.now into.old × (into.old.holds ≡ false) }
-        requires from { IsOf self.now from × (from.holds ≡ false) }
+        requires into { IsIdle self.now into.old }
+        requires from { IsIdle self.now from }
         ensures seat { IsOf self.now into.new }
         ensures joined { into.new ≡ after_join into.old from }
     {
@@ -71,7 +70,7 @@ impl<S: Stands> TurnCell<S> {
 
     /// The state, once one seat has taken in all others.
     pub fn close(self, seat: TurnSeat<S>) -> S
-        requires seat { IsOf self seat × (seat.holds ≡ false) }
+        requires seat { IsIdle self seat }
         requires all { HasTakenInAll self seat }
         ensures closed { Closes S.stands self seat result }
         ensures name { S.name result ≡ self.name }

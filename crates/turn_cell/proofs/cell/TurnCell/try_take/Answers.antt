@@ -9,10 +9,10 @@ pub fetch_or-word-requires : goal.fetch_or-word-requires
 fetch_or-word-requires g c =
     let is = c.seat.view_is in
     let cell = c.self.view_is in (
-      ap (λ s. s.table) is ∙ (c.requires.seat.table ∙ sym (ap (λ s. s.table) cell)),
+      ap (λ s. s.table) is ∙ (c.requires.0.table ∙ sym (ap (λ s. s.table) cell)),
       search rules,
-      tries g.S.Stands.stands g.S.Stands.name _ _ _ _ _ _ (c.seat.invariant.0 ∙ ap carried (ap (λ s. s.holds) is ∙ c.requires.free))
-          (ap (λ s. s.name) is ∙ (c.requires.seat.named ∙ ap Some (sym (ap (λ s. s.name) cell)))),
+      tries g.S.Stands.stands g.S.Stands.name _ _ _ _ _ _ (c.seat.invariant.0 ∙ ap carried (ap (λ s. s.holds) is ∙ c.requires.1))
+          (ap (λ s. s.name) is ∙ (c.requires.0.named ∙ ap Some (sym (ap (λ s. s.name) cell)))),
     )
 
 pub exchange-requires : goal.exchange-requires
@@ -20,7 +20,7 @@ exchange-requires g c =
     let even : c.fetch_or-word.result % 2 ≡ 0 = grind arith in
     let w = c.fetch_or-word.ensures.2.0 even in
     let after = ap (λ m. m.1) w.after in (
-      c.fetch_or-word.ensures.0 ∙ (ap (λ s. s.table) c.seat.view_is ∙ (c.requires.seat.table ∙ sym (ap (λ s. s.table) c.self.view_is))),
+      c.fetch_or-word.ensures.0 ∙ (ap (λ s. s.table) c.seat.view_is ∙ (c.requires.0.table ∙ sym (ap (λ s. s.table) c.self.view_is))),
       (Some w.state, after ∙ ap (λ l. (0, Some w.state) ∷ l) (sym (ap rest after))),
     )
 
