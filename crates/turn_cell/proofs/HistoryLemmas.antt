@@ -1,13 +1,14 @@
 -- Histories and what they begin with, and words that are even or odd.
 use Rattle.std.proofs.Common.{◌≡◌, ◌≤◌, ◌≢◌, ℕ, zero, suc, ◌+◌, ◌*◌, ◌<◌, ◌⊎◌, Bool, true, false, List, [], ◌∷◌, ◌++◌, map, set, length, eqb, refl, sym, ap, ◌∙◌, subst, arith, ne_eqb, eq-eqb, cond, inl, inr, ⊎_elim, append-nil}
 use Rattle.std.specs.Int.RustNames.{bit_or}
-use Rattle.std.specs.List.{filter}
+use Rattle.std.specs.List.{filter, All, AllPairs}
 use mathlib.Core.Option as plain
 use mathlib.Core.List.{IsPrefix, append_assoc}
 use lib.ListN.{get_elem?}
 use Rattle.std.proofs.lemmas.Nat.{or_shifted, or_block}
 use Rattle.std.proofs.lemmas.List.{map-append, length-append, length-map}
-use Rattle.std.proofs.lemmas.List.Elements.{filter-append}
+use Rattle.std.proofs.lemmas.List.Elements.{filter-append, All-append, All-head, All-tail}
+use Rattle.std.proofs.lemmas.List.Kept.{AllPairs-cons}
 use Rattle.turn_cell.specs.History.{entries_of, made_by}
 use Rattle.atomic_table.proofs.Lists.{at_set}
 
@@ -89,3 +90,12 @@ module _ {A : Type 0} where
   pub prefix_longer : (b : Bool) (xs ys l : List A) → IsPrefix xs l → IsPrefix ys l → IsPrefix (cond b ys xs) l
   prefix_longer true xs ys l p q = q
   prefix_longer false xs ys l p q = p
+
+module _ {A : Type 0} where
+  -- of two lists, each with a fact of all its pairs, and with the fact of each element of the first and each of the second
+  pub pairs_append : (R : A → A → Type 0) (xs ys : List A) → AllPairs R xs → AllPairs R ys → All (λ x. All (R x) ys) xs → AllPairs R (xs ++ ys)
+  pairs_append R [] ys p q c = q
+  pairs_append R (x ∷ xs) ys p q c =
+      let head : All (R x) xs = λ k d l. p 0 (suc k) d (omega arith) (omega arith) in
+      let tail : AllPairs R xs = λ i j d lt l. p (suc i) (suc j) d (omega arith) (omega arith) in
+      AllPairs-cons R x (xs ++ ys) (All-append (R x) xs ys head (All-head (λ x. All (R x) ys) x xs c)) (pairs_append R xs ys tail q (All-tail (λ x. All (R x) ys) x xs c))

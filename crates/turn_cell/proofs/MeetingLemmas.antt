@@ -11,12 +11,13 @@ use Rattle.atomic_table.proofs.Lists.{set_else, at_longer}
 use Rattle.turn_cell.specs.declared.view.SeatView.{SeatView}
 use Rattle.turn_cell.specs.declared.view.Joined.{Joined}
 use Rattle.std.specs.List.{All}
+use Rattle.std.proofs.lemmas.List.Kept.{AllPairs-cons}
 use Rattle.std.proofs.lemmas.List.Elements.{All-weaker, All-nil, All-cons, All-append, All-map, All-contains}
 use Rattle.atomic_table.specs.Seated.{TableId}
 use Rattle.turn_cell.specs.History.{entries_of}
 use Rattle.turn_cell.specs.Seat.{Agrees, Closes, CellState, HasTakenInAll, numbers_of}
 use Rattle.turn_cell.specs.Rule.{Turn, free, taken, is_holder, Keeps, Fits, Lies, Ruled, TurnRule, first_view, view_settled, view_following, view_after_join, view_as_joined, spent_view, shown}
-use Rattle.turn_cell.proofs.HistoryLemmas.{set_there, each_of_set, at_below, at_end, prefix_longer, prefix_refl}
+use Rattle.turn_cell.proofs.HistoryLemmas.{pairs_append, set_there, each_of_set, at_below, at_end, prefix_longer, prefix_refl}
 
 module _ {S E N : Type 0} (stands : S → List (ℕ × E) → Type 0) (name_of : S → N) (name : N) (seats : ℕ) where
   abbrev K : Type 0
@@ -59,6 +60,7 @@ module _ {S E N : Type 0} (stands : S → List (ℕ × E) → Type 0) (name_of :
       apart = q.apart;
       below = q.below;
     }) u.joined f.joined;
+    distinct = f.distinct;
     past = f.past;
     rights = λ n lo hi. let q = f.rights n lo hi in (same n hi q.0, q.1);
     marked = f.marked;
@@ -105,6 +107,7 @@ module _ {S E N : Type 0} (stands : S → List (ℕ × E) → Type 0) (name_of :
           apart = q.apart;
           below = omega arith;
         }) v.joined f.joined;
+        distinct = f.distinct;
         past = f.past;
         rights = λ n lo hi. absurd (omega arith);
         marked = f.marked;
@@ -119,6 +122,7 @@ module _ {S E N : Type 0} (stands : S → List (ℕ × E) → Type 0) (name_of :
         counted = counted;
         within = omega arith;
         joined = All-nil (Keeps log owner' new m (m + 1));
+        distinct = λ i j d lt l. absurd (omega arith);
         past = All-nil (λ p. IsPrefix p log);
         rights = λ n lo hi. (goes n (omega arith), (f.rights n (omega arith) hi).1);
         marked = refl;
@@ -162,6 +166,7 @@ module _ {S E N : Type 0} (stands : S → List (ℕ × E) → Type 0) (name_of :
       let comes : (n : ℕ) → owner n ≡ other → owner' n ≡ id = λ n p. ap (λ (b : Bool). cond b id (owner n)) (eq-eqb (owner n) other p) in
       let stays : (n j : ℕ) → j ≢ other → owner n ≡ j → owner' n ≡ j = λ n j no p. ap (λ (b : Bool). cond b id (owner n)) (ne_eqb (owner n) other (λ e. no (sym p ∙ e))) ∙ p in
       let away : id ≢ other = λ e. ne (sym e) in
+      let Apart : Joined E → Joined E → Type 0 = λ a b. a.number ≢ b.number in
       let Begins : Log → Type 0 = λ p. IsPrefix p log in
       let reach : w.next ≤ v.next = omega (arith, top, all) in
       let apart : (n : ℕ) → owner n ≡ other → n ≢ v.number = λ n p e. ne (sym p ∙ ap owner e ∙ f.placed) in
@@ -178,6 +183,12 @@ module _ {S E N : Type 0} (stands : S → List (ℕ × E) → Type 0) (name_of :
             (All-cons (Keeps log owner' id v.number v.next) (view_as_joined w) w.joined
             (let low : w.number < w.next = g.below in record { own = g.own; placed = comes w.number g.placed; apart = apart w.number g.placed; below = omega arith })
             (All-weaker (Keeps log owner other w.number w.next) (Keeps log owner' id v.number v.next) (λ x q. let low : x.number < w.next = q.below in record { own = q.own; placed = comes x.number q.placed; apart = apart x.number q.placed; below = omega arith }) w.joined g.joined));
+        distinct = pairs_append Apart v.joined (view_as_joined w ∷ w.joined) f.distinct
+            (AllPairs-cons Apart (view_as_joined w) w.joined (All-weaker (Keeps log owner other w.number w.next) (Apart (view_as_joined w)) (λ y q e. q.apart (sym e)) w.joined g.joined) g.distinct)
+            (All-weaker (Keeps log owner id v.number v.next) (λ x. All (Apart x) (view_as_joined w ∷ w.joined))
+            (λ x q. let split : (n : ℕ) → owner n ≡ other → x.number ≢ n = λ n p e. away (sym q.placed ∙ (ap owner e ∙ p)) in
+            All-cons (Apart x) (view_as_joined w) w.joined (split w.number g.placed) (All-weaker (Keeps log owner other w.number w.next) (Apart x) (λ y r. split y.number r.placed) w.joined g.joined))
+            v.joined f.joined);
         past = All-cons Begins v.seen (w.seen ∷ v.past ++ w.past) f.seen (All-cons Begins w.seen (v.past ++ w.past) g.seen (All-append Begins v.past w.past f.past g.past));
         rights = λ n lo hi. absurd (omega arith);
         marked = f.marked;
@@ -265,6 +276,7 @@ module _ {S E N : Type 0} (stands : S → List (ℕ × E) → Type 0) (name_of :
         counted = refl;
         within = some_seat;
         joined = All-nil (Keeps [] (λ _. 0) 0 0 1);
+        distinct = λ i j d lt l. absurd (omega arith);
         past = All-nil (λ p. IsPrefix p []);
         rights = λ n lo hi. (refl, refl);
         marked = refl;

@@ -1,10 +1,21 @@
 -- The numbers of seats that meet, for those who close a cell.
-use Rattle.std.proofs.Common.{◌≡◌, ℕ, zero, suc, ◌<◌, List, ◌∷◌, ◌++◌, refl, sym, ap, ◌∙◌, subst, arith}
-use Rattle.std.specs.List.{Contains}
+use Rattle.std.proofs.Common.{◌≡◌, ℕ, zero, suc, ◌<◌, List, [], ◌∷◌, ◌++◌, refl, sym, ap, ◌∙◌, subst, arith}
+use Rattle.std.specs.List.{All, Contains}
+use mathlib.Core.List.{IsPrefix}
 use Rattle.std.proofs.lemmas.List.{map-append}
-use Rattle.std.proofs.lemmas.List.Elements.{Contains-append_left, Contains-append_right}
+use Rattle.std.proofs.lemmas.List.Elements.{All-nil, All-cons, All-head, All-tail, Contains-append_left, Contains-append_right}
 use Rattle.turn_cell.specs.declared.view.Joined.{Joined}
-use Rattle.turn_cell.specs.Seat.{CellState, SeatState, HasTakenInAll, after_join, as_joined, numbers_of}
+use Rattle.turn_cell.specs.History.{entries_of}
+use Rattle.turn_cell.specs.Seat.{CellState, SeatState, Agrees, HasTakenInAll, after_join, as_joined, numbers_of}
+
+module _ {X : Type 0} where
+  first_of : (P : X → Type 0) (xs ys : List X) → All P (xs ++ ys) → All P xs
+  first_of P [] ys all = All-nil P
+  first_of P (x ∷ xs) ys all = All-cons P x xs (All-head P x (xs ++ ys) all) (first_of P xs ys (All-tail P x (xs ++ ys) all))
+
+  second_of : (P : X → Type 0) (xs ys : List X) → All P (xs ++ ys) → All P ys
+  second_of P [] ys all = all
+  second_of P (x ∷ xs) ys all = second_of P xs ys (All-tail P x (xs ++ ys) all)
 
 module _ {E N : Type 0} where
   -- the numbers of two seats that meet
@@ -38,3 +49,26 @@ module _ {E N : Type 0} where
       each (suc zero) l = Contains-append_left (numbers_of a ++ numbers_of b) (numbers_of c) 1 (Contains-append_right (numbers_of a) (numbers_of b) 1 (subst (Contains (numbers_of b)) first (Contains-number b)))
       each (suc (suc zero)) l = Contains-append_right (numbers_of a ++ numbers_of b) (numbers_of c) 2 (subst (Contains (numbers_of c)) second (Contains-number c))
       each (suc (suc (suc k))) l = absurd (omega arith)
+
+  -- what agrees with a seat that has taken in another agrees with both
+  pub both_agree : (a b both : SeatState E N) (history : List (ℕ × E)) → both ≡ after_join a b → Agrees both history → Agrees a history × Agrees b history
+  both_agree a b both history met knows =
+      let Begins : List (ℕ × E) → Type 0 = λ seen. IsPrefix seen history in
+      let Own : Joined E → Type 0 = λ j. entries_of j.number history ≡ j.own in
+      let k : Agrees (after_join a b) history = subst (λ (s : SeatState E N). Agrees s history) met knows in
+      let past = All-tail Begins b.seen (a.past ++ b.past) (All-tail Begins a.seen (b.seen ∷ a.past ++ b.past) k.past) in (
+        record { begins = All-head Begins a.seen (b.seen ∷ a.past ++ b.past) k.past; own = k.own; past = first_of Begins a.past b.past past; joined = first_of Own a.joined (as_joined b ∷ b.joined) k.joined },
+        record {
+          begins = All-head Begins b.seen (a.past ++ b.past) (All-tail Begins a.seen (b.seen ∷ a.past ++ b.past) k.past);
+          own = All-head Own (as_joined b) b.joined (second_of Own a.joined (as_joined b ∷ b.joined) k.joined);
+          past = second_of Begins a.past b.past past;
+          joined = All-tail Own (as_joined b) b.joined (second_of Own a.joined (as_joined b ∷ b.joined) k.joined);
+        },
+      )
+
+  -- what agrees with a seat that has taken in two others agrees with all three
+  pub three_agree : (a b c all : SeatState E N) (history : List (ℕ × E)) → all ≡ after_join (after_join a b) c → Agrees all history → Agrees a history × Agrees b history × Agrees c history
+  three_agree a b c all history met knows =
+      let last = both_agree (after_join a b) c all history met knows in
+      let two = both_agree a b (after_join a b) history refl last.0 in
+      (two.0, two.1, last.1)

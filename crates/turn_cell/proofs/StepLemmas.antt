@@ -59,6 +59,7 @@ module _ {S E N : Type 0} (stands : S → List (ℕ × E) → Type 0) (name_of :
         counted = f.counted;
         within = f.within;
         joined = f.joined;
+        distinct = f.distinct;
         past = f.past;
         rights = f.rights;
         marked = refl;
@@ -114,6 +115,7 @@ module _ {S E N : Type 0} (stands : S → List (ℕ × E) → Type 0) (name_of :
         counted = f.counted;
         within = f.within;
         joined = f.joined;
+        distinct = f.distinct;
         past = f.past;
         rights = f.rights;
         marked = f.marked;
@@ -163,6 +165,7 @@ module _ {S E N : Type 0} (stands : S → List (ℕ × E) → Type 0) (name_of :
       apart = q.apart;
       below = q.below;
     }) u.joined f.joined;
+    distinct = f.distinct;
     past = All-weaker (λ p. IsPrefix p log) (λ p. IsPrefix p (log ++ made_by m es)) (λ p q. prefix_more p log (made_by m es) q) u.past f.past;
     rights = λ k lo hi. let q = f.rights k lo hi in (q.0, others_same k m log es (apart k q.0) ∙ q.1);
     marked = f.marked ∙ off;
@@ -185,6 +188,7 @@ module _ {S E N : Type 0} (stands : S → List (ℕ × E) → Type 0) (name_of :
       apart = q.apart;
       below = q.below;
     }) v.joined f.joined;
+    distinct = f.distinct;
     past = All-weaker (λ p. IsPrefix p log) (λ p. IsPrefix p (log ++ more)) (λ p q. prefix_more p log more q) v.past f.past;
     rights = λ k lo hi. let q = f.rights k lo hi in let b : m < v.next = f.below in (q.0, others_same k m log es (λ e. omega arith) ∙ q.1);
     marked = refl;

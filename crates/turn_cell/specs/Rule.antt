@@ -1,6 +1,6 @@
 -- The rule of a cell's table, which is true between any two of its steps, and what each kind of step tells.
 use Rattle.std.specs.Prelude.{◌≡◌, ◌≢◌, ℕ, ◌+◌, ◌*◌, ◌^◌, ◌%◌, ◌<◌, ◌≤◌, ◌==◌, Bool, true, false, List, [], ◌∷◌, ◌++◌, length, Option, Some, None}
-use Rattle.std.specs.List.{All}
+use Rattle.std.specs.List.{All, AllPairs}
 use mathlib.Core.Option as plain
 use mathlib.Core.List.{IsPrefix}
 use lib.ListN.{get_elem?}
@@ -50,6 +50,7 @@ module _ {E N : Type 0} where
     pub counted : v.seats ≡ seats
     pub within : v.next ≤ v.seats
     pub joined : All (Keeps log owner place v.number v.next) v.joined
+    pub distinct : AllPairs (λ a b. a.number ≢ b.number) v.joined
     pub past : All (λ seen. IsPrefix seen log) v.past
     pub rights : (k : ℕ) → v.next ≤ k → k < seats → (owner k ≡ place) × (entries_of k log ≡ [])
     pub marked : v.holds ≡ holds

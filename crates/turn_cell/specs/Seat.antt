@@ -108,3 +108,12 @@ module _ {E N : Type 0} where
       pub stand : stands state history
       pub agrees : Agrees seat history
       pub no_others : (number : ℕ) → cell.seats ≤ number → entries_of number history ≡ []
+
+    -- The state of a cell of three stands for one history, with which all three seats agree, and which has no other entries.
+    pub record ClosesThree (first second third : SeatState E N) (state : S) : Type 0 where
+      pub history : List (ℕ × E)
+      pub stand : stands state history
+      pub first_agrees : Agrees first history
+      pub second_agrees : Agrees second history
+      pub third_agrees : Agrees third history
+      pub no_others : (number : ℕ) → 3 ≤ number → entries_of number history ≡ []

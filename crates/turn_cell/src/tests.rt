@@ -152,9 +152,10 @@ fn counted_by_three<R: Threads + Wait + Sync>(
     requires one { IsIdle cell one × (one.number ≡ 1) }
     requires two { IsIdle cell two × (two.number ≡ 2) }
 {
-    let ((zero, first), ((one, second), (two, third))) =
-        count_by_three(rt, &cell, zero, one, two, times);
-    let counter = close_three(cell, zero, one, two);
+    let ((zero, first), ((one, second), (two, third))) = count_by_three(
+        rt, &cell, zero, one, two, times,
+    );
+    let counter = cell.close_three(zero, one, two);
     (counter, [first, second, third])
 }
 
@@ -186,22 +187,6 @@ fn count_by_three<R: Threads + Wait + Sync>(
             ensures { IsIdle cell.entry.now result.0.0 × (result.0.0.number ≡ one.number) × IsIdle cell.entry.now result.1.0 × (result.1.0.number ≡ two.number) }
         { count_by_two(rt, cell, one, two, times) },
     )
-}
-
-fn close_three(
-    cell: TurnCell<Counter>,
-    mut zero: TurnSeat<Counter>,
-    one: TurnSeat<Counter>,
-    two: TurnSeat<Counter>,
-) -> Counter
-    requires count { cell.seats ≡ 3 }
-    requires zero { IsIdle cell zero × (zero.number ≡ 0) }
-    requires one { IsIdle cell one × (one.number ≡ 1) }
-    requires two { IsIdle cell two × (two.number ≡ 2) }
-{
-    cell.join(&mut zero, one);
-    cell.join(&mut zero, two);
-    cell.close(zero)
 }
 
 #[test]

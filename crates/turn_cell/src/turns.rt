@@ -1,7 +1,7 @@
 //! Taking the turn and giving it up, and how seats meet.
 
 ghost use Rattle.std.specs.Prelude.{◌≡◌, ◌≤◌, ◌+◌, ◌^◌, ◌%◌, ◌↔◌, true, length, IsErr, IfOk, IfErr};
-ghost use Rattle.turn_cell.specs.Seat.{IsOf, IsIdle, Takes, Closes, HasTakenInAll, after_find, after_put, after_join};
+ghost use Rattle.turn_cell.specs.Seat.{IsOf, IsIdle, Takes, Closes, ClosesThree, HasTakenInAll, after_find, after_put, after_join};
 
 use crate::cell::{Busy, TurnCell};
 use crate::held::Held;
@@ -84,5 +84,31 @@ impl<S: Stands> TurnCell<S> {
             Some(state) => state,
             None => unreachable!(),
         }
+    }
+
+    /// The state of a cell of three, from its three seats.
+    pub fn close_three(self, first: TurnSeat<S>, second: TurnSeat<S>, third: TurnSeat<S>) -> S
+        requires count { self.seats ≡ 3 }
+        requires first { IsIdle self first × (first.number ≡ 0) }
+        requires second { IsIdle self second × (second.number ≡ 1) }
+        requires third { IsIdle self third × (third.number ≡ 2) }
+        ensures closed { ClosesThree S.stands first second third result }
+        ensures name { S.name result ≡ self.name }
+    {
+        let all = self.meet(first, second, third);
+        self.close(all)
+    }
+
+    // The first seat, once it has taken in the two others.
+    fn meet(&self, mut first: TurnSeat<S>, second: TurnSeat<S>, third: TurnSeat<S>) -> TurnSeat<S>
+        requires first { IsIdle self.now first }
+        requires second { IsIdle self.now second }
+        requires third { IsIdle self.now third }
+        ensures idle { IsIdle self.now result }
+        ensures met { result ≡ after_join (after_join first second) third }
+    {
+        self.join(&mut first, second);
+        self.join(&mut first, third);
+        first
     }
 }
