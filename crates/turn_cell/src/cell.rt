@@ -9,7 +9,8 @@ use std::marker::Model;
 
 /// A state that several threads change in turn, each with a seat of its own.
 ///
-/// It has one word: twice the number of entries of the history, and one more while a seat holds the turn.
+/// Its one word is twice the number of entries of the history, and one more while a seat has the
+/// turn.
 #[derive(Drop)]
 pub struct TurnCell<S: Stands> {
     pub(crate) table: Table<
@@ -40,7 +41,8 @@ impl<S: Stands> Model for TurnCell<S> {
 /// The turn was held by another seat.
 #[derive(Clone, Copy, Debug, PartialEq, Eq)]
 pub struct Busy {
-    /// The word that the one exchange of the call found. It is odd: twice the number of entries, and one more.
+    /// The word that the one exchange of the call found: odd, twice the number of entries and one
+    /// more.
     pub word: u64,
 }
 

@@ -8,7 +8,8 @@ use std::marker::Model;
 
 /// The state of a cell, in the hands of the seat whose turn it is.
 ///
-/// `put` gives it back. One that is dropped leaves the turn held for ever, and each later take answers Busy.
+/// `put` gives it back. One that is dropped leaves the turn held for ever, and each later take
+/// answers `Busy`.
 #[derive(Drop)]
 pub struct Held<S> {
     pub(crate) state: S,

@@ -15,7 +15,8 @@ use std::alloc::{AllocError, Global};
 use std::snapshot::Snapshot;
 
 impl<S: Stands> TurnCell<S> {
-    /// A cell whose history is empty, and its seats, in the order of their numbers, which begin at 0.
+    /// A cell whose history is empty, and its 1 to 16 seats, in the order of their numbers, which
+    /// begin at 0.
     ///
     /// No other call of this crate takes memory.
     pub fn make(
@@ -25,7 +26,8 @@ impl<S: Stands> TurnCell<S> {
     ) -> Result<(TurnCell<S>, Vec<TurnSeat<S>>), CellRefused<S>>
         requires seats { (1 ≤ seats) × (seats ≤ 16) }
         requires state { S.stands state [] }
-        ensures cell { IfOk result (λ made. (made.0.seats ≡ seats) × (made.0.name ≡ S.name state)) }
+        ensures cell { IfOk result (λ made.
+            (made.0.seats ≡ seats) × (made.0.name ≡ S.name state)) }
         ensures count { IfOk result (λ made. length made.1.items ≡ seats) }
         ensures seats { IfOk result (λ made. AreNewSeats made.0 made.1.items) }
         ensures refused { IfErr result (λ refused. refused.state ≡ state) }
@@ -85,11 +87,12 @@ impl<S: Stands> TurnCell<S> {
         all
     }
 
-    /// The last of those seats of a new cell that are still together: that with the greatest number.
+    /// The last of the seats of a new cell that are still together: that with the greatest number.
     pub fn last_new(&self, seats: &mut Vec<TurnSeat<S>>) -> Option<TurnSeat<S>>
         requires { AreNewSeats self.now seats.old.items }
         ensures rest { AreNewSeats self.now seats.new.items }
-        ensures seat { IfSome result (λ seat. seat ≡ new_seat self.now (length seats.new.items)) }
+        ensures seat { IfSome result (λ seat.
+            seat ≡ new_seat self.now (length seats.new.items)) }
         ensures count { MatchOption result
             (length seats.old.items ≡ 0)
             (λ _. length seats.old.items ≡ length seats.new.items + 1) }

@@ -21,7 +21,8 @@ pub struct OneHistory<S> {
 impl<S: Stands> TableRule<Option<S>, SeatView<S::Entry, S::Name>, Opening<S>> for OneHistory<S> {
     ghost use Rattle.turn_cell.specs.Rule.{TurnRule, first_view};
 
-    ghost holds = { λ opening. TurnRule S.stands S.name (S.name opening.state.value) opening.seats };
+    ghost holds = { λ opening.
+        TurnRule S.stands S.name (S.name opening.state.value) opening.seats };
 
     ghost first = { λ opening. first_view (S.name opening.state.value) opening.seats };
 }
@@ -48,7 +49,8 @@ impl<S, E, N, A: Adds<E>> Play<Option<S>, SeatView<E, N>> for Put<A> {
     ghost then = { Puts A.entries };
 }
 
-/// The last seat that was dealt gives the next number, and its right to give further ones, to a new seat.
+/// The seat that was dealt last gives the next number, and its right to give further ones, to a
+/// new seat.
 pub struct Deal;
 
 impl<E, N> Split<SeatView<E, N>> for Deal {

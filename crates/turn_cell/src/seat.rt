@@ -5,9 +5,10 @@ use crate::view::SeatView;
 use atomic_table::Seat;
 use std::marker::Model;
 
-/// The right to take turns at one cell. It has no bytes: what it knows of the history stands in contracts alone.
+/// The right to take turns at one cell. It has no bytes: what it knows of the history stands in
+/// contracts alone.
 ///
-/// A seat may go to another thread. One that is dropped takes its entries with it, and the cell can't be closed.
+/// A seat may go to another thread. Once one is dropped, its cell can't be closed any more.
 #[derive(Drop)]
 pub struct TurnSeat<S: Stands> {
     pub(crate) seat: Seat<Option<S>, SeatView<S::Entry, S::Name>>,
@@ -22,5 +23,6 @@ impl<S: Stands> Model for TurnSeat<S> {
 
     ghost view = { λ s. shown s.seat.table_id s.seat.me.0 };
 
-    ghost invariant = { λ s. (s.seat.me.1 ≡ carried s.seat.me.0.holds) × (s.seat.me.0.next ≡ s.seat.me.0.seats) };
+    ghost invariant = { λ s.
+        (s.seat.me.1 ≡ carried s.seat.me.0.holds) × (s.seat.me.0.next ≡ s.seat.me.0.seats) };
 }

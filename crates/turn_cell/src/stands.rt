@@ -23,7 +23,8 @@ pub trait Stands {
 
 /// The entries that a `put` adds. Each call of `put` takes them from its type parameter.
 ///
-/// A caller that passes `Brand` names them where its proofs pick the `ghosts-put`. One that picks nothing adds none.
+/// A caller that passes `Brand` names them where its proofs pick the `ghosts-put`. One that picks
+/// nothing adds none.
 pub trait Adds<E> {
     /// The entries, the first one first.
     ghost entries: { List E };

@@ -184,7 +184,8 @@ fn count_by_three<R: Threads + Wait + Sync>(
         { count_often(rt, cell, zero, times) },
         || -> (Turned, Turned)
             requires { IsSync R.row × IsIdle cell.now one × IsIdle cell.now two }
-            ensures { IsIdle cell.entry.now result.0.0 × (result.0.0.number ≡ one.number) × IsIdle cell.entry.now result.1.0 × (result.1.0.number ≡ two.number) }
+            ensures { IsIdle cell.entry.now result.0.0 × (result.0.0.number ≡ one.number)
+                × IsIdle cell.entry.now result.1.0 × (result.1.0.number ≡ two.number) }
         { count_by_two(rt, cell, one, two, times) },
     )
 }

@@ -10,7 +10,8 @@ use crate::seat::TurnSeat;
 use crate::stands::{Adds, Stands};
 
 impl<S: Stands> TurnCell<S> {
-    /// Takes the turn where it is free. It makes one exchange, decides by what that found, and waits for nobody.
+    /// Takes the turn where it is free. It makes one exchange, decides by what that found, and
+    /// waits for nobody. `Busy` comes exactly where it found an odd word.
     pub fn try_take(&self, seat: &mut TurnSeat<S>) -> Result<Held<S>, Busy>
         requires { IsIdle self.now seat.old }
         ensures seat { IsOf self.now seat.new }
@@ -33,9 +34,11 @@ impl<S: Stands> TurnCell<S> {
         }
     }
 
-    /// Gives the state back and the turn up, with `added` entries of this seat, which are those of `A`.
+    /// Gives the state back and the turn up, with 0 to 2 entries of this seat, which are those of
+    /// `A`.
     ///
-    /// The state stands for the history with these entries. A state that wasn't changed goes back with none.
+    /// The state stands for the history with these entries. A state that wasn't changed goes back
+    /// with none. A history has at most 2^62 entries.
     pub fn put<A: Adds<S::Entry>>(&self, seat: &mut TurnSeat<S>, held: Held<S>, added: u8)
         requires seat { IsOf self.now seat.old }
         requires turn { seat.old.holds ≡ true }
