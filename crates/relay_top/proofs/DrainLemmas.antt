@@ -74,7 +74,7 @@ unspellable_stops job x at_end from to n at frame e =
     let p = slice_range x from to in
     let rest = cut job.input job.max (drop n x ++ []) at_end in
     let whole : translation job (x ++ []) at_end ≡ translation_of job.input job.output (p ∷ rest.payloads) (moved n rest.verdict) =
-        ap (λ c. translation_of job.input job.output c.payloads c.verdict) (frame.goes_on [] at_end (may_stop at_end)) in
+    ap (λ c. translation_of job.input job.output c.payloads c.verdict) (frame.goes_on [] at_end (may_stop at_end)) in
     ap (λ t. translation job t at_end) (sym (append-nil x)) ∙ whole ∙ cannot_spell job.input job.output p rest.payloads (moved n rest.verdict) at e
 
 pub no_frame : (job : Job) (x : List ℕ) (at_end : Bool) (v : Verdict) → cut job.input job.max x at_end ≡ record { payloads = []; verdict = v } → translation job x at_end ≡ record { text = []; verdict = v }

@@ -282,7 +282,7 @@ finished job ending sb s kb k k' k'' held count d place end t drains flushed pla
     let rest : drop n t.taken ≡ drop d.passed held = sym (drop-drop d.passed t.place t.taken) ∙ ap (λ (x : List ℕ). drop d.passed x) (sym t.held_is) in
     let said : translation job (drop n t.taken) at_end ≡ record { text = []; verdict = verdict_of d.stop 0 } = ap (λ (x : List ℕ). translation job x at_end) rest ∙ drains.stopped.told in
     let whole : translation job t.taken at_end ≡ behind over.written n (record { text = []; verdict = verdict_of d.stop 0 }) =
-        passed_text job t.taken at_end kb k' n over ∙ ap (λ x. behind over.written n x) said in
+    passed_text job t.taken at_end kb k' n over ∙ ap (λ x. behind over.written n x) said in
     let text : (translation job t.taken at_end).text ≡ over.written = ap (λ x. x.text) whole ∙ append-nil over.written in
     let verdict : (translation job t.taken at_end).verdict ≡ verdict_of d.stop n = ap (λ x. x.verdict) whole ∙ verdict_moves d.stop n in
     let at_place : place ≡ t.place = omega (arith, placed, t.counted, t.over.within, ap length t.held_is, length-drop t.place t.taken) in
