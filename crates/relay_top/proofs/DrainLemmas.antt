@@ -1,9 +1,9 @@
 -- How a translation goes on behind the frames that were passed over.
-use Rattle.std.proofs.Common.{◌≡◌, ◌<◌, ◌≤◌, ◌+◌, ℕ, Bool, true, false, List, [], ◌∷◌, ◌++◌, length, drop, Option, Some, None, Result, Ok, Err, refl, sym, ap, ◌∙◌, append_assoc, arith, inl, inr, ◌⊎◌, add_assoc, zero-add, subst}
+use Rattle.std.proofs.Common.{◌≡◌, ◌+◌, ℕ, Bool, true, false, List, [], ◌∷◌, ◌++◌, length, drop, Option, Some, None, Result, Ok, Err, refl, sym, ap, ◌∙◌, append_assoc, arith, inl, inr, ◌⊎◌, add_assoc, zero-add, subst}
 use Rattle.std.specs.Prelude.{IsNone, slice_range, unwrap_or, MatchOption}
-use Rattle.std.proofs.lemmas.List.{append-nil, length-append, length-drop, drop-drop, drop-append-le}
+use Rattle.std.proofs.lemmas.List.{append-nil, length-append, length-drop, drop-drop}
 use Rattle.std.proofs.Math.Seq.{drop-length}
-use Rattle.edge_core.specs.Device.{SinkState, Takes, TakesFront}
+use Rattle.edge_core.specs.Device.{SinkState, TakesFront}
 use Rattle.edge_core.proofs.DeviceLemmas.{Takes-trans}
 use Rattle.frame_model.specs.declared.framing.Framing.{Framing}
 use Rattle.frame_model.specs.declared.framing.Framing.TheVariants.{Len4, Len2, Line}
@@ -13,10 +13,9 @@ use Rattle.frame_model.specs.Spelling.{obstacle, spelling, text}
 use Rattle.frame_model.specs.Cut.{Verdict, Open, End, Rest, Bad, cut, moved, MayCome}
 use Rattle.frame_model.specs.Translation.{Translation, spellable, from_unspellable, verdict_at, translation_of, translation, behind}
 use Rattle.frame_model.proofs.FrontLemmas.{front_empty}
-use Rattle.frame_model.proofs.CutLemmas.{cut_partial}
 use Rattle.frame_grammar.specs.Answers.{BeginsWithFrame}
 use Rattle.relay_top.specs.Drain.{PassesOver}
-use Rattle.relay_top.proofs.DeviceLemmas.{takes_nothing, front_more, front_behind}
+use Rattle.relay_top.proofs.DeviceLemmas.{takes_nothing, front_behind}
 
 -- ---- one frame
 
