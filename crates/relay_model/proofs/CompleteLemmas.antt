@@ -37,7 +37,7 @@ pub complete : BadStays → (job : Job) (run : Run) (source_before source_after 
 complete law job run source_before source_after sink_before sink_after relay source_sound sink_sound =
     let text = all_translated law job run source_before source_after sink_before sink_after relay source_sound sink_sound in
     (elim source_before.left as (λ o. source_before.left ≡ o → IfSome o (λ input. length input ≤ job.limit → Appends sink_before.written sink_after.written (translation job input true).text)
-      → IfSome source_before.left (λ input. length input ≤ job.limit → (translation job input true).verdict ≡ End → (status_of (outcome job run) ≡ 0) × Appends sink_before.written sink_after.written (translation job input true).text)) [
+    → IfSome source_before.left (λ input. length input ≤ job.limit → (translation job input true).verdict ≡ End → (status_of (outcome job run) ≡ 0) × Appends sink_before.written sink_after.written (translation job input true).text)) [
       | None ↦ λ e gained. rw e tt
       | Some input ↦ λ e gained. rw e (λ fits lawful. (zero input e fits lawful, gained fits))
     ]) refl text

@@ -149,8 +149,7 @@ whole job run source_before source_after sink_before sink_after relay clean =
         let none_left : left.0 ≡ [] = rw left.1 at nothing_left in
         let all : input ≡ run.taken = all_taken input run.taken relay.taken.dropped left.0 left.2 none_dropped none_left in
         let verdict : ((translation job run.taken true).verdict ≡ End) ⊎ ((translation job run.taken true).verdict ≡ Open) = rw ended at v in
-        let text : run.written ≡ (translation job run.taken true).text = rw ended at (relay.passed_on.whole f) in
-        (
+        let text : run.written ≡ (translation job run.taken true).text = rw ended at (relay.passed_on.whole f) in (
           nothing_left,
           rw all (elim verdict [ inl is ↦ is | inr stays ↦ absurd (not_open job run.taken stays) ]),
           rw (all, ← text) relay.passed_on.gained,

@@ -86,7 +86,7 @@ abbrev pub IsComplete : Job → ℕ → SourceState → SourceState → SinkStat
 IsComplete job status source_before source_after sink_before sink_after =
     HasNotRisen source_before.faults source_after.faults → HasNotRisen sink_before.faults sink_after.faults →
     IfSome source_before.left (λ input. length input ≤ job.limit → (translation job input true).verdict ≡ End →
-      (status ≡ 0) × Appends sink_before.written sink_after.written (translation job input true).text)
+    (status ≡ 0) × Appends sink_before.written sink_after.written (translation job input true).text)
 
 -- The source has nothing left, what it held is lawful to its end, and the sink gains the translation of it.
 abbrev pub RelaysAll : Job → SourceState → SourceState → SinkState → SinkState → Type 0

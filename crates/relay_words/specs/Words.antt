@@ -63,3 +63,7 @@ command_in words = Err (length words)
 -- The command, or the index of the first word that can't be read, or the number of words where one is missing.
 abbrev pub command_of : List (List ℕ) → Result Command ℕ
 command_of words = elim (misplaced [] words) [ None ↦ command_in words | Some at ↦ Err at ]
+
+-- The job of a command that relays.
+abbrev pub job_of : Command → Job
+job_of (Copy job) = job

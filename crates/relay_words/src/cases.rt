@@ -30,7 +30,21 @@ pub fn word_cases()
     ensures another_case { command_of (codes "Copy" ∷ codes "line" ∷ codes "len4" ∷ []) ≡ Err 0 }
     ensures too_great { command_of (codes "copy" ∷ codes "line" ∷ codes "len4" ∷ codes "max=16777217" ∷ []) ≡ Err 3 }
     ensures plain { command_of (codes "copy" ∷ codes "line" ∷ codes "len2" ∷ []) ≡ Ok (Command.Copy (record {
-        input = Framing.Line; output = Framing.Len2; max = 65536; seg = 4096; pause = 65536; resume = 32768; limit = 2 ^ 40 })) }
+      input = Framing.Line;
+      output = Framing.Len2;
+      max = 65536;
+      seg = 4096;
+      pause = 65536;
+      resume = 32768;
+      limit = 2 ^ 40;
+    })) }
     ensures no_payload { command_of (codes "copy" ∷ codes "line" ∷ codes "len4" ∷ codes "max=0" ∷ []) ≡ Ok (Command.Copy (record {
-        input = Framing.Line; output = Framing.Len4; max = 0; seg = 4096; pause = 65536; resume = 32768; limit = 2 ^ 40 })) }
+      input = Framing.Line;
+      output = Framing.Len4;
+      max = 0;
+      seg = 4096;
+      pause = 65536;
+      resume = 32768;
+      limit = 2 ^ 40;
+    })) }
 {}

@@ -4,6 +4,8 @@
 mod cases;
 mod command;
 mod number;
+#[cfg(test)]
+mod tests;
 mod words;
 
 pub use cases::{number_cases, word_cases};

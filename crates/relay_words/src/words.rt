@@ -1,7 +1,8 @@
 //! Reading the words of a command.
 
-ghost use Rattle.std.specs.Prelude.{◌≡◌, IfErr, IfOk, Ok, Err, ◌^◌};
-ghost use Rattle.relay_words.specs.Words.{command_of, framing_of, max_of, texts};
+ghost use Rattle.std.specs.Prelude.{◌≡◌, IfErr, IfOk, IfSome, Ok, Err, ◌^◌, ◌≤◌};
+ghost use Rattle.frame_model.specs.Job.{IsInRange};
+ghost use Rattle.relay_words.specs.Words.{command_of, framing_of, job_of, max_of, texts};
 
 use crate::command::{Command, Usage};
 use crate::number::read_number;
@@ -17,6 +18,7 @@ const GREATEST_MAX: u64 = 16_777_216;
 pub fn read_words(words: &[String]) -> Result<Command, Usage>
     ensures command { IfOk result (λ command. command_of (texts words.now) ≡ Ok command) }
     ensures usage { IfErr result (λ usage. command_of (texts words.now) ≡ Err usage.word) }
+    ensures in_range { IfOk result (λ command. IsInRange (job_of command)) }
 {
     match command_in(words) {
         Ok(command) => Ok(command),
@@ -26,7 +28,8 @@ pub fn read_words(words: &[String]) -> Result<Command, Usage>
 
 /// The command, or the index of the word that can't be read.
 fn command_in(words: &[String]) -> Result<Command, usize>
-    ensures { result ≡ command_of (texts words.now) }
+    ensures read { result ≡ command_of (texts words.now) }
+    ensures in_range { IfOk result (λ command. IsInRange (job_of command)) }
 {
     let Some((command, words)) = words.split_first() else {
         return Err(0);
@@ -52,10 +55,10 @@ fn command_in(words: &[String]) -> Result<Command, usize>
             let Some(max) = max(key.as_str()) else {
                 return Err(3);
             };
-            if let Some(_) = words.split_first() {
-                return Err(4);
+            match words.split_first() {
+                None => max,
+                Some(_) => return Err(4),
             }
-            max
         }
     };
     Ok(Command::Copy {
@@ -76,7 +79,8 @@ fn framing(word: &str) -> Option<Framing>
 
 /// The number of a word `max=NUMBER`, where it is in its range.
 fn max(word: &str) -> Option<u64>
-    ensures { result ≡ max_of word.now }
+    ensures read { result ≡ max_of word.now }
+    ensures in_range { IfSome result (λ max. max ≤ 16777216) }
 {
     let number = read_number(word.strip_prefix("max=")?)?;
     if number <= GREATEST_MAX {
@@ -88,7 +92,9 @@ fn max(word: &str) -> Option<u64>
 
 /// A job with the usual sizes.
 fn job(input: Framing, output: Framing, max: u64) -> Job
-    ensures { result ≡ record { input = input; output = output; max = max; seg = 4096; pause = 65536; resume = 32768; limit = 2 ^ 40 } }
+    requires { max ≤ 16777216 }
+    ensures in_range { IsInRange result }
+    ensures fields { result ≡ record { input = input; output = output; max = max; seg = 4096; pause = 65536; resume = 32768; limit = 2 ^ 40 } }
 {
     Job {
         input,
