@@ -1,5 +1,5 @@
 -- What a contract sees of a device: its bytes, where it tells them, and its count of faults.
-use Rattle.std.specs.Prelude.{ℕ, ◌≡◌, ◌<◌, ◌-◌, ◌^◌, ◌⊎◌, List, Option}
+use Rattle.std.specs.Prelude.{ℕ, ◌≡◌, ◌<◌, ◌-◌, ◌^◌, ◌⊎◌, List, length, Option}
 use mathlib.Core.List.{IsPrefix}
 use Rattle.std.specs.Io.KnownBytes.{Appends, Consumes, Keeps}
 
@@ -41,9 +41,10 @@ pub record SinkFails (before after : SinkState) : Type 0 where
   pub kept : Keeps before.written after.written
   pub risen : HasRisen before.faults after.faults
 
--- Calls of a sink put a front of these bytes at the end of what was written, and then one of them failed.
-pub record TakesFront (before : SinkState) (bytes : List ℕ) (after : SinkState) : Type 0 where
+-- Calls of a sink put the first `count` of these bytes at the end of what was written, and then one of them failed.
+pub record TakesFront (before : SinkState) (bytes : List ℕ) (count : ℕ) (after : SinkState) : Type 0 where
   pub front : List ℕ
   pub is_front : IsPrefix front bytes
+  pub counted : count ≡ length front
   pub taken : Appends before.written after.written front
   pub risen : HasRisen before.faults after.faults

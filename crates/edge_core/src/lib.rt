@@ -14,7 +14,7 @@ pub use mem_sink::MemSink;
 pub use mem_source::MemSource;
 pub use std_edges::{ReadEdge, WriteEdge};
 pub use whole_source::WholeSource;
-pub use writing::write_all;
+pub use writing::{BrokenOff, write_all};
 
 #[cfg(test)]
 mod tests;

@@ -85,7 +85,7 @@ fn a_sink_of_one_byte_a_write_keeps_the_front_before_its_fault(
     let alloc = rt.alloc();
     let caps = vec![in alloc; 1, 1, 1, 1, 1, 1, 1]?;
     let mut sink = MemSink::make(alloc, 16, caps, vec![in alloc; 4]?)?;
-    assert_eq!(rt; write_all(&mut sink, FRAMES), Err(Failed));
+    assert_eq!(rt; write_all(&mut sink, FRAMES), Err(BrokenOff { written: 3 }));
     assert_eq!(rt; sink.bytes(), [0, 0, 0].as_slice());
     assert_eq!(rt; write_all(&mut sink, &[1, 97, 0, 0]), Ok(()));
     assert_eq!(rt; sink.bytes(), FRAMES);

@@ -1,20 +1,32 @@
 //! Writing all of a piece.
 
-ghost use Rattle.std.specs.Prelude.{◌≡◌, [], IsOk, OnErr, OnOk};
+ghost use Rattle.std.specs.Prelude.{◌≡◌, [], IsOk, IfErr, OnOk};
 ghost use Rattle.edge_core.specs.Device.{Takes, TakesFront};
 
 use crate::device::{Failed, Sink};
 
+/// Writing that a failed call of the sink broke off, behind the first `written` bytes.
+#[derive(Clone, Copy, Debug, PartialEq, Eq)]
+pub struct BrokenOff {
+    pub written: u64,
+}
+
 /// Writes all of `piece`, or a front of it where a write failed. An empty piece makes no call.
-pub fn write_all<K: Sink>(sink: &mut K, piece: &[u8]) -> Result<(), Failed>
+pub fn write_all<K: Sink>(sink: &mut K, piece: &[u8]) -> Result<(), BrokenOff>
     ensures whole { OnOk result (Takes (K.state sink.old) piece.now (K.state sink.new)) }
     ensures empty { piece.now ≡ [] → IsOk result × (sink.new ≡ sink.old) }
-    ensures front { OnErr result (TakesFront (K.state sink.old) piece.now (K.state sink.new)) }
+    ensures front { IfErr result (λ broken. TakesFront (K.state sink.old) piece.now broken.written (K.state sink.new)) }
 {
     let mut rest = piece;
     while !rest.is_empty() {
-        let taken = sink.write(rest)?;
-        rest = &rest[taken..];
+        match sink.write(rest) {
+            Ok(taken) => rest = &rest[taken..],
+            Err(Failed) => {
+                return Err(BrokenOff {
+                    written: (piece.len() - rest.len()) as u64,
+                });
+            }
+        }
     }
     Ok(())
 }

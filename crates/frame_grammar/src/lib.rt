@@ -4,6 +4,7 @@
 mod affix;
 mod cutter;
 mod line_feed;
+mod segments;
 mod spelling;
 #[cfg(test)]
 mod tests;
@@ -11,4 +12,5 @@ mod tests;
 pub use affix::Affix;
 pub use cutter::{Cut, next_frame};
 pub use frame_model::{BadKind, Framing, Job};
+pub use segments::segments_of;
 pub use spelling::{can_spell, spell_head, spell_tail};

@@ -88,3 +88,49 @@ fn heads_and_tails(rt: HostRuntime) {
         assert_eq!(rt; spell_tail(framing).bytes(), want);
     }
 }
+
+#[test]
+fn segments_hold_a_payload_and_a_pause(rt: HostRuntime) {
+    let usual = Job {
+        input: Framing::Len4,
+        output: Framing::Line,
+        max: 65_536,
+        seg: 4_096,
+        pause: 65_536,
+        resume: 32_768,
+        limit: 1 << 40,
+    };
+    assert_eq!(rt; segments_of(&usual), 36);
+    assert_eq!(rt;
+        segments_of(&Job {
+            max: 65_528,
+            ..usual
+        }),
+        35
+    );
+    assert_eq!(rt;
+        segments_of(&Job {
+            max: 65_529,
+            ..usual
+        }),
+        36
+    );
+    assert_eq!(rt;
+        segments_of(&Job {
+            max: 0,
+            seg: 64,
+            pause: 0,
+            ..usual
+        }),
+        4
+    );
+    assert_eq!(rt;
+        segments_of(&Job {
+            max: 16_777_216,
+            seg: 64,
+            pause: 16_777_216,
+            ..usual
+        }),
+        524_292
+    );
+}

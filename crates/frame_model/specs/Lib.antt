@@ -3,3 +3,4 @@ pub mod Cut
 pub mod Translation
 pub mod Ending
 pub mod Cases
+pub mod Job

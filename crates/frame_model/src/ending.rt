@@ -31,3 +31,13 @@ pub enum Outcome {
     /// The input is longer than the limit.
     TooLong,
 }
+
+/// How a relay ended, and what it moved.
+#[derive(Clone, Copy, Debug, PartialEq, Eq)]
+pub struct Report {
+    pub outcome: Outcome,
+    /// How many bytes were taken from the source.
+    pub taken: u64,
+    /// How many bytes the sink took.
+    pub written: u64,
+}

@@ -11,7 +11,7 @@ mod laws;
 pub use cases::{
     cut_cases, ending_cases, greatest_payload_cases, spelling_cases, translation_cases,
 };
-pub use ending::{FillEnd, Outcome};
+pub use ending::{FillEnd, Outcome, Report};
 pub use framing::{BadKind, Framing};
 pub use job::Job;
 pub use laws::{

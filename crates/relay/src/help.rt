@@ -5,22 +5,25 @@ pub const VERSION: &str = "relay 0.1.0\n";
 pub const HELP: &str = "\
 relay translates framed byte streams.
 
-usage: relay copy len4 line
+usage: relay copy IN OUT [max=BYTES]
 
-Reads frames from standard input and writes them to standard output.
+Reads frames from standard input, and writes their payloads to standard output as frames of another kind.
 
-  len4    a frame is the payload's length in 4 bytes, most significant first, and then the payload
-  line    a frame is the payload, which has no line feed, and then a line feed
+IN and OUT
+  len4    the payload's length in 4 bytes, most significant first, and then the payload
+  len2    the payload's length in 2 bytes, most significant first, and then the payload
+  line    the payload, which has no line feed, and then a line feed; the last line of an input may lack it
 
-A payload has at most 65536 bytes.
+keys
+  max=BYTES    the greatest payload, 0 to 16777216; 65536 where it isn't given
 
-status
+status, with a line on standard error where it isn't 0
   0  all of the input was relayed
   1  the words are no command; nothing is read or written
-  2  a frame is too big, or its payload has a line feed; what came before it is written
+  2  a frame is too big, or OUT can't spell its payload; what came before it is written, and nothing after it
   3  the input ends within a frame; what came before that is written
   4  standard input can't be read; the whole frames that were read are written
   5  standard output can't be written
   6  there is no memory; nothing is read or written
-  7  the input has more than 2^40 bytes
+  7  the input has more than 2^40 bytes; the whole frames of the first 2^40 are written
 ";

@@ -34,7 +34,14 @@ fn run(rt: &HostRuntime) -> u8 {
         Some("--version") => tell(&mut output, VERSION),
         _ => {
             let mut input = ReadEdge::new(rt.stdin());
-            relay_local(rt.alloc(), words.as_slice(), &mut input, &mut output)
+            let mut faults = WriteEdge::new(rt.stderr());
+            relay_local(
+                rt.alloc(),
+                words.as_slice(),
+                &mut input,
+                &mut output,
+                &mut faults,
+            )
         }
     }
 }

@@ -11,17 +11,17 @@ use Rattle.frame_model.specs.declared.ending.FillEnd.TheVariants as taking
 use Rattle.frame_model.specs.Cut.{Verdict, Open, End, Rest, Bad}
 use Rattle.frame_model.specs.Translation.{translation}
 use Rattle.frame_model.specs.Ending.{is_at_end, outcome_of, status_of}
-use Rattle.relay_model.specs.Run.{IsDropped, IsRelayed, TranslatesAll}
+use Rattle.relay_model.specs.Run.{IsDropped, IsRun, Run, TranslatesAll, outcome}
 
 abbrev pub BadStays : Type 0
 BadStays = (job : Job) (x z : List ℕ) (b : Bool) (place : ℕ) (kind : BadKind) → (translation job x false).verdict ≡ Bad place kind → translation job (x ++ z) b ≡ translation job x false
 
-not_risen : (before after : ℕ) → HasNotRisen before after → HasRisen before after → ⊥
+pub not_risen : (before after : ℕ) → HasNotRisen before after → HasRisen before after → ⊥
 not_risen before after same (inl rose) = omega (arith, same.0)
 not_risen before after same (inr stands) = omega (arith, same.1, stands.1)
 
 -- a reader goes early only where the input is bad
-bad_where_gone : (n : ℕ) (verdict : Verdict) (code : ℕ) → code ≡ status_of (outcome_of false (taking.Gone n) verdict) → (code ≡ 2) ⊎ (code ≡ 5) → (place : ℕ) × (kind : BadKind) × (verdict ≡ Bad place kind)
+pub bad_where_gone : (n : ℕ) (verdict : Verdict) (code : ℕ) → code ≡ status_of (outcome_of false (taking.Gone n) verdict) → (code ≡ 2) ⊎ (code ≡ 5) → (place : ℕ) × (kind : BadKind) × (verdict ≡ Bad place kind)
 bad_where_gone n (Bad place kind) code e two = (place, kind, refl)
 bad_where_gone n Open code e (inl two) = absurd (omega arith)
 bad_where_gone n Open code e (inr five) = absurd (omega arith)
@@ -52,7 +52,7 @@ by_ending job code input taken dropped left (taking.Gone n) law parts fits drop 
     let whole : input ≡ taken ++ left = parts ∙ rw drop (ap (λ (t : List ℕ). t ++ left) (append-nil taken)) in
     rw whole (sym (ap (λ t. t.text) (law job taken left true bad.0 bad.1 bad.2)))
 
-by_failed : (failed : Bool) (P : Type 0) → (failed ≡ true → ⊥) → (failed ≡ false → P) → P
+pub by_failed : (failed : Bool) (P : Type 0) → (failed ≡ true → ⊥) → (failed ≡ false → P) → P
 by_failed true P never then = absurd (never refl)
 by_failed false P never then = then refl
 
@@ -60,13 +60,9 @@ pub left_of : (input taken : List ℕ) (after : Option (List ℕ)) → Consumes 
 left_of input taken None gives = absurd gives
 left_of input taken (Some left) gives = (left, refl, gives)
 
-pub gone_of : (job : Job) (status : ℕ) (source_before source_after : SourceState) (sink_before sink_after : SinkState) (relay : IsRelayed job status source_before source_after sink_before sink_after)
-    → (code : ℕ) → relay.run.ending ≡ taking.Gone code → (status ≡ 2) ⊎ (status ≡ 5)
-gone_of job status source_before source_after sink_before sink_after relay = rw relay.told relay.is_run.gone
-
-pub all_translated : BadStays → (job : Job) (code : ℕ) (source_before source_after : SourceState) (sink_before sink_after : SinkState) →
-    IsRelayed job code source_before source_after sink_before sink_after → TranslatesAll job source_before source_after sink_before sink_after
-all_translated law job code source_before source_after sink_before sink_after relay source_sound sink_sound =
+pub all_translated : BadStays → (job : Job) (run : Run) (source_before source_after : SourceState) (sink_before sink_after : SinkState) →
+    IsRun job run source_before source_after sink_before sink_after → TranslatesAll job source_before source_after sink_before sink_after
+all_translated law job run source_before source_after sink_before sink_after relay source_sound sink_sound =
     (elim source_before.left as (λ o. source_before.left ≡ o → IfSome source_before.left (λ input. length input ≤ job.limit → Appends sink_before.written sink_after.written (translation job input true).text)) [
       | None ↦ λ e. rw e tt
       | Some input ↦ λ e. rw e (λ fits. told input e fits)
@@ -74,14 +70,13 @@ all_translated law job code source_before source_after sink_before sink_after re
   where
     told : (input : List ℕ) → source_before.left ≡ Some input → length input ≤ job.limit → Appends sink_before.written sink_after.written (translation job input true).text
     told input e fits =
-        let run = relay.run in
-        let given : Consumes (Some input) source_after.left (run.taken ++ relay.is_run.taken.dropped) = rw (← e) relay.is_run.taken.given in
-        let left = left_of input (run.taken ++ relay.is_run.taken.dropped) source_after.left given in
+        let given : Consumes (Some input) source_after.left (run.taken ++ relay.taken.dropped) = rw (← e) relay.taken.given in
+        let left = left_of input (run.taken ++ relay.taken.dropped) source_after.left given in
         by_failed run.write_failed (Appends sink_before.written sink_after.written (translation job input true).text)
-        (λ failed. not_risen sink_before.faults sink_after.faults sink_sound (relay.is_run.passed_on.fault failed))
+        (λ failed. not_risen sink_before.faults sink_after.faults sink_sound (relay.passed_on.fault failed))
         (λ passed.
-        let text = by_ending job code input run.taken relay.is_run.taken.dropped left.0 run.ending law left.2 fits relay.is_run.taken.dropping
-        (λ is. rw left.1 at (relay.is_run.taken.end is))
-        (λ is. not_risen source_before.faults source_after.faults source_sound (relay.is_run.taken.fault is))
-        relay.is_run.taken.long (rw passed at relay.told) (gone_of job code source_before source_after sink_before sink_after relay) in
-        rw (← text, ← relay.is_run.passed_on.whole passed) relay.is_run.passed_on.gained)
+        let text = by_ending job (status_of (outcome job run)) input run.taken relay.taken.dropped left.0 run.ending law left.2 fits relay.taken.dropping
+        (λ is. rw left.1 at (relay.taken.end is))
+        (λ is. not_risen source_before.faults source_after.faults source_sound (relay.taken.fault is))
+        relay.taken.long (rw passed refl) relay.gone in
+        rw (← text, ← relay.passed_on.whole passed) relay.passed_on.gained)

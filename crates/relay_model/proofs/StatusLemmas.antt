@@ -9,8 +9,8 @@ use Rattle.frame_model.specs.Cut.{Verdict, Open, End, Rest, Bad}
 use Rattle.frame_model.specs.Translation.{translation}
 use Rattle.frame_model.specs.Ending.{outcome_of, status_of}
 use Rattle.frame_model.proofs.EndLemmas.{not_open}
-use Rattle.relay_model.specs.Run.{IsRelayed, RelaysAll, HasCause, translated}
-use Rattle.relay_model.proofs.RunLemmas.{all_taken, gone_of, left_of}
+use Rattle.relay_model.specs.Run.{HasCause, IsRun, RelaysAll, Run, outcome, translated}
+use Rattle.relay_model.proofs.RunLemmas.{all_taken, left_of}
 
 -- the input was read to its end, or the reader of the taken bytes is gone
 pub data Ends (ending : FillEnd) : Type 0 where
@@ -44,12 +44,11 @@ says false taking.End Open = IsWhole refl (AtEnd refl) (inr refl) refl
 says false (taking.Gone code) End = IsWhole refl (Left code refl) (inl refl) refl
 says false (taking.Gone code) Open = IsWhole refl (Left code refl) (inr refl) refl
 
-abbrev Whose : (job : Job) (status : ℕ) (source_before source_after : SourceState) (sink_before sink_after : SinkState) → IsRelayed job status source_before source_after sink_before sink_after → Type 0
-Whose job status source_before source_after sink_before sink_after relay = Says relay.run.write_failed relay.run.ending (translated job relay.run).verdict status
+abbrev Told : Job → Run → Type 0
+Told job run = Says run.write_failed run.ending (translated job run).verdict (status_of (outcome job run))
 
-says_of : (job : Job) (status : ℕ) (source_before source_after : SourceState) (sink_before sink_after : SinkState) (relay : IsRelayed job status source_before source_after sink_before sink_after) → Whose job status source_before source_after sink_before sink_after relay
-says_of job status source_before source_after sink_before sink_after relay =
-    rw relay.told (says relay.run.write_failed relay.run.ending (translated job relay.run).verdict)
+told_of : (job : Job) (run : Run) → Told job run
+told_of job run = says run.write_failed run.ending (translated job run).verdict
 
 -- the reader isn't gone with a status but 2 and 5
 read_to_end : (ending : FillEnd) (status : ℕ) → Ends ending → ((code : ℕ) → ending ≡ taking.Gone code → (status ≡ 2) ⊎ (status ≡ 5)) → (status ≡ 0) ⊎ (status ≡ 3) → ending ≡ taking.End
@@ -61,14 +60,13 @@ read_to_end ending status (Left code e) gone which = elim (gone code e) [
 
 -- ---- the causes
 
-at_end_of : (job : Job) (status : ℕ) (source_before source_after : SourceState) (sink_before sink_after : SinkState) (relay : IsRelayed job status source_before source_after sink_before sink_after)
-    → Whose job status source_before source_after sink_before sink_after relay → (status ≡ 0) ⊎ (status ≡ 3) → relay.run.ending ≡ taking.End
-at_end_of job status a b c d relay (WriteFailed f s) which = elim which [ inl z ↦ absurd (omega arith) | inr z ↦ absurd (omega arith) ]
-at_end_of job status a b c d relay (IsBad f s) which = elim which [ inl z ↦ absurd (omega arith) | inr z ↦ absurd (omega arith) ]
-at_end_of job status a b c d relay (ReadFailed f e s) which = elim which [ inl z ↦ absurd (omega arith) | inr z ↦ absurd (omega arith) ]
-at_end_of job status a b c d relay (IsLong f e s) which = elim which [ inl z ↦ absurd (omega arith) | inr z ↦ absurd (omega arith) ]
-at_end_of job status a b c d relay (IsTruncated f e s) which = read_to_end relay.run.ending status e (gone_of job status a b c d relay) which
-at_end_of job status a b c d relay (IsWhole f e v s) which = read_to_end relay.run.ending status e (gone_of job status a b c d relay) which
+at_end_of : (failed : Bool) (ending : FillEnd) (v : Verdict) (status : ℕ) → ((code : ℕ) → ending ≡ taking.Gone code → (status ≡ 2) ⊎ (status ≡ 5)) → Says failed ending v status → (status ≡ 0) ⊎ (status ≡ 3) → ending ≡ taking.End
+at_end_of failed ending v status gone (WriteFailed f s) which = elim which [ inl z ↦ absurd (omega arith) | inr z ↦ absurd (omega arith) ]
+at_end_of failed ending v status gone (IsBad f s) which = elim which [ inl z ↦ absurd (omega arith) | inr z ↦ absurd (omega arith) ]
+at_end_of failed ending v status gone (ReadFailed f e s) which = elim which [ inl z ↦ absurd (omega arith) | inr z ↦ absurd (omega arith) ]
+at_end_of failed ending v status gone (IsLong f e s) which = elim which [ inl z ↦ absurd (omega arith) | inr z ↦ absurd (omega arith) ]
+at_end_of failed ending v status gone (IsTruncated f e s) which = read_to_end ending status e gone which
+at_end_of failed ending v status gone (IsWhole f e w s) which = read_to_end ending status e gone which
 
 fault_of : (failed : Bool) (ending : FillEnd) (v : Verdict) (status : ℕ) → Says failed ending v status → status ≡ 4 → ending ≡ taking.Fault
 fault_of failed ending v status (WriteFailed f s) four = absurd (omega arith)
@@ -112,46 +110,47 @@ is_few failed ending v status (IsLong f e s) = (omega arith, λ e. omega arith, 
 is_few failed ending v status (IsTruncated f e s) = (omega arith, λ e. omega arith, λ e. omega arith)
 is_few failed ending v status (IsWhole f e w s) = (omega arith, λ e. omega arith, λ e. omega arith)
 
-pub causes : (job : Job) (status : ℕ) (source_before source_after : SourceState) (sink_before sink_after : SinkState) → IsRelayed job status source_before source_after sink_before sink_after → HasCause status source_before source_after sink_before sink_after
-causes job status source_before source_after sink_before sink_after relay =
-    let s = says_of job status source_before source_after sink_before sink_after relay in
+pub causes : (job : Job) (run : Run) (source_before source_after : SourceState) (sink_before sink_after : SinkState) → IsRun job run source_before source_after sink_before sink_after
+    → HasCause (status_of (outcome job run)) source_before source_after sink_before sink_after
+causes job run source_before source_after sink_before sink_after relay =
+    let s = told_of job run in
     record {
-      at_end = λ which. relay.is_run.taken.end (at_end_of job status source_before source_after sink_before sink_after relay s which);
-      read_fault = λ four. relay.is_run.taken.fault (fault_of _ _ _ status s four);
-      write_fault = λ five. relay.is_run.passed_on.fault (failed_of _ _ _ status s five);
-      source_failed = λ rose. shows_read_fault _ _ _ status s (λ no. omega (arith, relay.is_run.taken.unfailed no, rose));
-      sink_failed = λ rose. shows_write_fault _ _ _ status s (λ no. omega (arith, relay.is_run.passed_on.unfailed no, rose));
-      few = is_few _ _ _ status s;
+      at_end = λ which. relay.taken.end (at_end_of _ _ _ _ relay.gone s which);
+      read_fault = λ four. relay.taken.fault (fault_of _ _ _ _ s four);
+      write_fault = λ five. relay.passed_on.fault (failed_of _ _ _ _ s five);
+      source_failed = λ rose. shows_read_fault _ _ _ _ s (λ kept. omega (arith, relay.taken.unfailed kept, rose));
+      sink_failed = λ rose. shows_write_fault _ _ _ _ s (λ passed. omega (arith, relay.passed_on.unfailed passed, rose));
+      few = is_few _ _ _ _ s;
     }
 
 -- ---- status 0
 
-pub whole : (job : Job) (source_before source_after : SourceState) (sink_before sink_after : SinkState) → IsRelayed job 0 source_before source_after sink_before sink_after → RelaysAll job source_before source_after sink_before sink_after
-whole job source_before source_after sink_before sink_after relay =
+pub whole : (job : Job) (run : Run) (source_before source_after : SourceState) (sink_before sink_after : SinkState) → IsRun job run source_before source_after sink_before sink_after → status_of (outcome job run) ≡ 0
+    → RelaysAll job source_before source_after sink_before sink_after
+whole job run source_before source_after sink_before sink_after relay clean =
     (elim source_before.left as (λ o. source_before.left ≡ o → RelaysAll job source_before source_after sink_before sink_after) [
       | None ↦ λ e. rw e tt
-      | Some input ↦ λ e. rw e (all_of input e (says_of job 0 source_before source_after sink_before sink_after relay))
+      | Some input ↦ λ e. rw e (all_of input e (told_of job run))
     ]) refl
   where
-    all_of : (input : List ℕ) → source_before.left ≡ Some input → Whose job 0 source_before source_after sink_before sink_after relay
+    all_of : (input : List ℕ) → source_before.left ≡ Some input → Told job run
         → IsAtEnd source_after.left × ((translation job input true).verdict ≡ End) × Appends sink_before.written sink_after.written (translation job input true).text
-    all_of input e (WriteFailed f s) = absurd (omega arith)
-    all_of input e (IsBad f s) = absurd (omega arith)
-    all_of input e (ReadFailed f r s) = absurd (omega arith)
-    all_of input e (IsLong f r s) = absurd (omega arith)
-    all_of input e (IsTruncated f r s) = absurd (omega arith)
+    all_of input e (WriteFailed f s) = absurd (omega (arith, s, clean))
+    all_of input e (IsBad f s) = absurd (omega (arith, s, clean))
+    all_of input e (ReadFailed f r s) = absurd (omega (arith, s, clean))
+    all_of input e (IsLong f r s) = absurd (omega (arith, s, clean))
+    all_of input e (IsTruncated f r s) = absurd (omega (arith, s, clean))
     all_of input e (IsWhole f r v s) =
-        let run = relay.run in
-        let ended = read_to_end run.ending 0 r (gone_of job 0 source_before source_after sink_before sink_after relay) (inl refl) in
-        let nothing_left = relay.is_run.taken.end ended in
-        let none_dropped : relay.is_run.taken.dropped ≡ [] = rw ended at relay.is_run.taken.dropping in
-        let given : Consumes (Some input) source_after.left (run.taken ++ relay.is_run.taken.dropped) = rw (← e) relay.is_run.taken.given in
-        let left = left_of input (run.taken ++ relay.is_run.taken.dropped) source_after.left given in
+        let ended = read_to_end run.ending (status_of (outcome job run)) r relay.gone (inl clean) in
+        let nothing_left = relay.taken.end ended in
+        let none_dropped : relay.taken.dropped ≡ [] = rw ended at relay.taken.dropping in
+        let given : Consumes (Some input) source_after.left (run.taken ++ relay.taken.dropped) = rw (← e) relay.taken.given in
+        let left = left_of input (run.taken ++ relay.taken.dropped) source_after.left given in
         let none_left : left.0 ≡ [] = rw left.1 at nothing_left in
-        let all : input ≡ run.taken = all_taken input run.taken relay.is_run.taken.dropped left.0 left.2 none_dropped none_left in
+        let all : input ≡ run.taken = all_taken input run.taken relay.taken.dropped left.0 left.2 none_dropped none_left in
         let verdict : ((translation job run.taken true).verdict ≡ End) ⊎ ((translation job run.taken true).verdict ≡ Open) = rw ended at v in
-        let text : run.written ≡ (translation job run.taken true).text = rw ended at (relay.is_run.passed_on.whole f) in (
+        let text : run.written ≡ (translation job run.taken true).text = rw ended at (relay.passed_on.whole f) in (
           nothing_left,
           rw all (elim verdict [ inl is ↦ is | inr stays ↦ absurd (not_open job run.taken stays) ]),
-          rw (all, ← text) relay.is_run.passed_on.gained,
+          rw (all, ← text) relay.passed_on.gained,
         )

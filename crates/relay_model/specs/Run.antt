@@ -7,9 +7,11 @@ use Rattle.frame_model.specs.declared.job.Job.{Job}
 use Rattle.frame_model.specs.declared.ending.FillEnd.{FillEnd}
 use Rattle.frame_model.specs.declared.ending.FillEnd.TheVariants as taking
 use Rattle.frame_model.specs.declared.ending.Outcome.{Outcome}
+use Rattle.frame_model.specs.declared.ending.Report.{Report}
 use Rattle.frame_model.specs.Cut.{End}
 use Rattle.frame_model.specs.Translation.{Translation, translation}
 use Rattle.frame_model.specs.Ending.{is_at_end, outcome_of, status_of}
+use Rattle.relay_model.specs.Lines.{line_of, IsWritten}
 
 -- What was taken from the source and how that ended, what was written to the sink, and whether a write or a flush failed.
 pub record Run : Type 0 where
@@ -55,17 +57,20 @@ pub record IsRun (job : Job) (run : Run) (source_before source_after : SourceSta
   pub passed_on : IsPassedOn job run sink_before sink_after
   pub gone : (code : ℕ) → run.ending ≡ taking.Gone code → (status_of (outcome job run) ≡ 2) ⊎ (status_of (outcome job run) ≡ 5)
 
--- A run passed, and this is its status.
-pub record IsRelayed (job : Job) (status : ℕ) (source_before source_after : SourceState) (sink_before sink_after : SinkState) : Type 0 where
+-- A run passed, this is its status, and its line was written to the sink for faults.
+pub record IsRelayed (job : Job) (status : ℕ) (source_before source_after : SourceState) (sink_before sink_after faults_before faults_after : SinkState) : Type 0 where
   pub run : Run
   pub is_run : IsRun job run source_before source_after sink_before sink_after
   pub told : status ≡ status_of (outcome job run)
+  pub line : IsWritten (line_of (outcome job run) (length run.taken) (length run.written)) faults_before faults_after
 
--- A run passed, and so it ended.
-pub record IsRelayedTo (job : Job) (end : Outcome) (source_before source_after : SourceState) (sink_before sink_after : SinkState) : Type 0 where
+-- A run passed, and this is its report.
+pub record IsReported (job : Job) (report : Report) (source_before source_after : SourceState) (sink_before sink_after : SinkState) : Type 0 where
   pub run : Run
   pub is_run : IsRun job run source_before source_after sink_before sink_after
-  pub told : end ≡ outcome job run
+  pub ended : report.outcome ≡ outcome job run
+  pub taken : report.taken ≡ length run.taken
+  pub written : report.written ≡ length run.written
 
 -- ---- what follows
 
@@ -75,6 +80,13 @@ TranslatesAll job source_before source_after sink_before sink_after =
     HasNotRisen source_before.faults source_after.faults → HasNotRisen sink_before.faults sink_after.faults →
     IfSome source_before.left (λ input. length input ≤ job.limit →
     Appends sink_before.written sink_after.written (translation job input true).text)
+
+-- Where neither device failed and all that the source held is lawful, all of it is relayed, and the status is 0.
+abbrev pub IsComplete : Job → ℕ → SourceState → SourceState → SinkState → SinkState → Type 0
+IsComplete job status source_before source_after sink_before sink_after =
+    HasNotRisen source_before.faults source_after.faults → HasNotRisen sink_before.faults sink_after.faults →
+    IfSome source_before.left (λ input. length input ≤ job.limit → (translation job input true).verdict ≡ End →
+    (status ≡ 0) × Appends sink_before.written sink_after.written (translation job input true).text)
 
 -- The source has nothing left, what it held is lawful to its end, and the sink gains the translation of it.
 abbrev pub RelaysAll : Job → SourceState → SourceState → SinkState → SinkState → Type 0

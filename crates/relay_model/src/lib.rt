@@ -4,4 +4,4 @@
 
 mod laws;
 
-pub use laws::{causes_of_statuses, translates_all, whole_on_status_0};
+pub use laws::{causes_of_statuses, complete_where_lawful, translates_all, whole_on_status_0};

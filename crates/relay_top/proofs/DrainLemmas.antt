@@ -1,7 +1,7 @@
 -- How a translation goes on behind the frames that were passed over.
-use Rattle.std.proofs.Common.{◌≡◌, ◌+◌, ℕ, Bool, true, false, List, [], ◌∷◌, ◌++◌, length, drop, Option, Some, None, Result, Ok, Err, refl, sym, ap, ◌∙◌, append_assoc, arith, inl, inr, ◌⊎◌, add_assoc, zero-add, subst}
+use Rattle.std.proofs.Common.{◌≡◌, ◌≤◌, ◌+◌, ◌-◌, ◌*◌, ℕ, Bool, true, false, List, [], ◌∷◌, ◌++◌, length, take, drop, Option, Some, None, Result, Ok, Err, refl, sym, ap, ◌∙◌, append_assoc, arith, inl, inr, ◌⊎◌, add_assoc, zero-add, subst}
 use Rattle.std.specs.Prelude.{IsNone, slice_range, unwrap_or, MatchOption}
-use Rattle.std.proofs.lemmas.List.{append-nil, length-append, length-drop, drop-drop}
+use Rattle.std.proofs.lemmas.List.{append-nil, length-append, length-take, length-drop, drop-drop}
 use Rattle.std.proofs.Math.Seq.{drop-length}
 use Rattle.edge_core.specs.Device.{SinkState, TakesFront}
 use Rattle.edge_core.proofs.DeviceLemmas.{Takes-trans}
@@ -9,12 +9,13 @@ use Rattle.frame_model.specs.declared.framing.Framing.{Framing}
 use Rattle.frame_model.specs.declared.framing.Framing.TheVariants.{Len4, Len2, Line}
 use Rattle.frame_model.specs.declared.framing.BadKind.TheVariants.{Unspellable}
 use Rattle.frame_model.specs.declared.job.Job.{Job}
-use Rattle.frame_model.specs.Spelling.{obstacle, spelling, text}
+use Rattle.frame_model.specs.Spelling.{head_of, obstacle, spelling, tail_of, text}
 use Rattle.frame_model.specs.Cut.{Verdict, Open, End, Rest, Bad, cut, moved, MayCome}
 use Rattle.frame_model.specs.Translation.{Translation, spellable, from_unspellable, verdict_at, translation_of, translation, behind}
 use Rattle.frame_model.proofs.FrontLemmas.{front_empty}
+use Rattle.frame_model.proofs.FrameLemmas.{spelling_len}
 use Rattle.frame_grammar.specs.Answers.{BeginsWithFrame}
-use Rattle.relay_top.specs.Drain.{PassesOver}
+use Rattle.relay_top.specs.Drain.{PassesOver, WritesOver}
 use Rattle.relay_top.proofs.DeviceLemmas.{takes_nothing, front_behind}
 
 -- ---- one frame
@@ -92,7 +93,7 @@ moved_moved m n End = refl
 moved_moved m n (Rest place) = ap (λ (k : ℕ). Rest k) (sym (add_assoc m n place))
 moved_moved m n (Bad place kind) = ap (λ (k : ℕ). Bad k kind) (sym (add_assoc m n place))
 
-moved_zero : (v : Verdict) → moved 0 v ≡ v
+pub moved_zero : (v : Verdict) → moved 0 v ≡ v
 moved_zero Open = refl
 moved_zero End = refl
 moved_zero (Rest place) = ap (λ (k : ℕ). Rest k) (zero-add place)
@@ -101,19 +102,21 @@ moved_zero (Bad place kind) = ap (λ (k : ℕ). Bad k kind) (zero-add place)
 pub behind_behind : (xs ys : List ℕ) (m n : ℕ) (t : Translation) → behind xs m (behind ys n t) ≡ behind (xs ++ ys) (m + n) t
 behind_behind xs ys m n t = rw (moved_moved m n t.verdict) (ap (λ (text : List ℕ). record { text = text; verdict = moved (m + n) t.verdict }) (sym (append_assoc xs ys t.text)))
 
-pub passes_nothing : (job : Job) (x : List ℕ) (at_end : Bool) (a : SinkState) → PassesOver job x at_end a 0 a
+abbrev pub passes_nothing : (job : Job) (x : List ℕ) (at_end : Bool) (a : SinkState) → PassesOver job x at_end a 0 a
 passes_nothing job x at_end a = record {
   within = omega arith;
   written = [];
   taken = takes_nothing a a refl;
+  bounded = omega arith;
   goes_on = λ z b may. sym (ap (λ (v : Verdict). record { text = (translation job (x ++ z) b).text; verdict = v }) (moved_zero (translation job (x ++ z) b).verdict));
 }
 
-pub passes_more : (job : Job) (x : List ℕ) (at_end : Bool) (a b c : SinkState) (m n : ℕ) → PassesOver job x at_end a m b → PassesOver job (drop m x) at_end b n c → PassesOver job x at_end a (m + n) c
+abbrev pub passes_more : (job : Job) (x : List ℕ) (at_end : Bool) (a b c : SinkState) (m n : ℕ) → PassesOver job x at_end a m b → PassesOver job (drop m x) at_end b n c → PassesOver job x at_end a (m + n) c
 passes_more job x at_end a b c m n first second = record {
   within = omega (arith, first.within, second.within, length-drop m x);
   written = first.written ++ second.written;
   taken = Takes-trans a b c first.written second.written first.taken second.taken;
+  bounded = omega (arith, first.bounded, second.bounded, length-append first.written second.written);
   goes_on = λ z may_be may.
       let rest : drop n (drop m x) ≡ drop (m + n) x = drop-drop n m x in
       let then = ap (λ t. behind first.written m t) (second.goes_on z may_be may) ∙ behind_behind first.written second.written m n (translation job (drop n (drop m x) ++ z) may_be) in
@@ -126,10 +129,38 @@ passed_text job x at_end a b n over =
     ap (λ t. translation job t at_end) (sym (append-nil x)) ∙ over.goes_on [] at_end (may_stop at_end)
     ∙ ap (λ t. behind over.written n (translation job t at_end)) (append-nil (drop n x))
 
-pub fails_behind : (job : Job) (x : List ℕ) (at_end : Bool) (a b c : SinkState) (n : ℕ) → PassesOver job x at_end a n b → TakesFront b (translation job (drop n x) at_end).text c → TakesFront a (translation job x at_end).text c
-fails_behind job x at_end a b c n over failed =
+pub fails_behind : (job : Job) (x : List ℕ) (at_end : Bool) (a b c : SinkState) (n count : ℕ) → (over : PassesOver job x at_end a n b) → TakesFront b (translation job (drop n x) at_end).text count c
+    → TakesFront a (translation job x at_end).text (length over.written + count) c
+fails_behind job x at_end a b c n count over failed =
     let text : (translation job x at_end).text ≡ over.written ++ (translation job (drop n x) at_end).text = ap (λ t. t.text) (passed_text job x at_end a b n over) in
-    subst (λ (t : List ℕ). TakesFront a t c) (sym text) (front_behind a b c over.written (translation job (drop n x) at_end).text over.taken failed)
+    subst (λ (t : List ℕ). TakesFront a t (length over.written + count) c) (sym text) (front_behind a b c over.written (translation job (drop n x) at_end).text count over.taken failed)
+
+-- with the numbers of bytes written
+pub writes_more : (job : Job) (x : List ℕ) (at_end : Bool) (a b c : SinkState) (m n i j : ℕ) → WritesOver job x at_end a m i b → WritesOver job (drop m x) at_end b n j c → WritesOver job x at_end a (m + n) (i + j) c
+writes_more job x at_end a b c m n i j first second = record {
+  over = passes_more job x at_end a b c m n first.over second.over;
+  counted = omega (arith, first.counted, second.counted, length-append first.over.written second.over.written);
+}
+
+pub writes_fail : (job : Job) (x : List ℕ) (at_end : Bool) (a b c : SinkState) (n i count : ℕ) → (writes : WritesOver job x at_end a n i b) → TakesFront b (translation job (drop n x) at_end).text count c
+    → TakesFront a (translation job x at_end).text (i + count) c
+writes_fail job x at_end a b c n i count writes failed =
+    subst (λ (k : ℕ). TakesFront a (translation job x at_end).text (k + count) c) (sym writes.counted) (fails_behind job x at_end a b c n count writes.over failed)
+
+pub writes_nothing : (job : Job) (x : List ℕ) (at_end : Bool) (a : SinkState) → WritesOver job x at_end a 0 0 a
+writes_nothing job x at_end a = record { over = passes_nothing job x at_end a; counted = refl }
+
+-- ---- how long a frame is
+
+around : (f : Framing) (n : ℕ) → length (head_of f n) + length (tail_of f) ≤ 4
+around Len4 n = omega arith
+around Len2 n = omega arith
+around Line n = omega arith
+
+pub frame_bounded : (input output : Framing) (max : ℕ) (x : List ℕ) (at_end : Bool) (from to n : ℕ) → BeginsWithFrame input max x at_end from to n → length (spelling output (slice_range x from to)) ≤ 5 * n
+frame_bounded input output max x at_end from to n frame =
+    let p = slice_range x from to in
+    omega (arith, spelling_len output p, around output (length p), length-take (to - from) (drop from x), frame.some, frame.ordered.0, frame.ordered.1)
 
 -- ---- the answers on a payload
 

@@ -2,4 +2,6 @@ pub mod DeviceLemmas
 pub mod DrainLemmas
 pub mod IntakeLemmas
 pub mod RelayLemmas
-pub mod WordLemmas
+pub mod TextLemmas
+pub mod TellLemmas
+pub mod LocalLemmas

@@ -1,4 +1,6 @@
-pub mod Words
+pub mod Tell
+pub mod Local
+pub mod Text
 pub mod Intake
 pub mod Drain
 pub mod Relay

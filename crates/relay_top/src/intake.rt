@@ -75,6 +75,13 @@ impl Intake {
         self.taken - self.held as u64
     }
 
+    /// How many bytes were taken in all.
+    pub fn taken(&self) -> u64
+        ensures { result ≡ self.now.taken }
+    {
+        self.taken
+    }
+
     /// Lets go of the first `passed` bytes that are held.
     pub fn pass(&mut self, passed: usize)
         requires { passed ≤ length self.old.held }

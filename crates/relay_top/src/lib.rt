@@ -5,9 +5,7 @@ mod drain;
 mod intake;
 mod local;
 mod relay;
-mod words;
+mod tell;
+mod text;
 
 pub use local::relay_local;
-
-#[cfg(test)]
-mod tests;

@@ -1,16 +1,21 @@
 //! The commands that wait for nobody.
 
-ghost use Rattle.std.specs.Prelude.{◌≡◌, ◌≢◌, ◌↔◌, ◌⊎◌, IsNone, IfSome};
+ghost use Rattle.std.specs.Prelude.{◌≡◌, ◌≢◌, ◌↔◌, ◌⊎◌, IsErr, IfErr, IfOk};
+ghost use Rattle.frame_model.specs.Job.{IsInRange};
 ghost use Rattle.frame_model.specs.Ending.{status_of as status_of_outcome};
-ghost use Rattle.relay_model.specs.Run.{IsRelayed, TranslatesAll, RelaysAll, HasCause};
-ghost use Rattle.relay_top.specs.Words.{job_of, texts};
+ghost use Rattle.relay_model.specs.Lines.{IsWritten, memory_line, usage_line};
+ghost use Rattle.relay_model.specs.Run.{HasCause, IsComplete, IsRelayed, RelaysAll, TranslatesAll};
+ghost use Rattle.relay_words.specs.Words.{command_of, job_of, texts};
+ghost use Rattle.relay_top.specs.Local.{Copies};
 
 use crate::intake::Intake;
 use crate::relay::relay;
-use crate::words::read_words;
+use crate::tell::{Told, tell};
 use edge_core::{Sink, Source};
+use frame_grammar::{Job, segments_of};
 use frame_model::Outcome;
-use relay_model::{causes_of_statuses, translates_all, whole_on_status_0};
+use relay_model::{causes_of_statuses, complete_where_lawful, translates_all, whole_on_status_0};
+use relay_words::{Command, read_words};
 use std::alloc::Global;
 
 /// The status of words that are no command.
@@ -19,10 +24,8 @@ const USAGE: u8 = 1;
 /// The status where there is no memory for a relay.
 const OUT_OF_MEMORY: u8 = 6;
 
-/// How many bytes a relay holds at most. The longest frame has about half as many.
-const BUFFER_LEN: usize = 131_072;
-
 /// Runs the command that the words ask for, which relays `source` to `sink`, and answers its status.
+/// Where that isn't 0, a line on `faults` says why; a failure of `faults` changes nothing.
 ///
 /// | Status | Meaning |
 /// |---|---|
@@ -34,41 +37,83 @@ const BUFFER_LEN: usize = 131_072;
 /// | 5 | A write or a flush failed. |
 /// | 6 | There is no memory. Nothing is read or written. |
 /// | 7 | The source has more than 2^40 bytes. The whole frames of the first 2^40 are written. |
-pub fn relay_local<S: Source, K: Sink>(
+pub fn relay_local<S: Source, K: Sink, E: Sink>(
     alloc: Global,
     words: &[String],
     source: &mut S,
     sink: &mut K,
+    faults: &mut E,
 ) -> u8
-    ensures usage { (result ≡ 1) ↔ IsNone (job_of (texts words.now)) }
+    ensures usage { (result ≡ 1) ↔ IsErr (command_of (texts words.now)) }
+    ensures usage_told { IfErr (command_of (texts words.now)) (λ word. IsWritten (usage_line word) (E.state faults.old) (E.state faults.new)) }
+    ensures memory_told { result ≡ 6 → IsWritten memory_line (E.state faults.old) (E.state faults.new) }
 
     // Without a command, and without memory, nothing is read or written.
     ensures source_untouched { (result ≡ 1) ⊎ (result ≡ 6) → S.state source.new ≡ S.state source.old }
     ensures sink_untouched { (result ≡ 1) ⊎ (result ≡ 6) → K.state sink.new ≡ K.state sink.old }
 
-    // Else a run took what the source lost, wrote its translation to the sink, and the status says how it ended.
-    ensures relayed { result ≢ 1 → result ≢ 6 → IfSome (job_of (texts words.now)) (λ job.
-        IsRelayed job result (S.state source.old) (S.state source.new) (K.state sink.old) (K.state sink.new)) }
+    // Else a run took what the source lost, wrote its translation to the sink, and the status and the line say how it ended.
+    ensures relayed { result ≢ 1 → result ≢ 6 → IfOk (command_of (texts words.now)) (λ command.
+        IsRelayed (job_of command) result (S.state source.old) (S.state source.new) (K.state sink.old) (K.state sink.new) (E.state faults.old) (E.state faults.new)) }
 
     // So, where no device failed, the sink gained the translation of all that the source held,
-    ensures translated { result ≢ 1 → result ≢ 6 → IfSome (job_of (texts words.now)) (λ job.
-        TranslatesAll job (S.state source.old) (S.state source.new) (K.state sink.old) (K.state sink.new)) }
+    ensures translated { result ≢ 1 → result ≢ 6 → IfOk (command_of (texts words.now)) (λ command.
+        TranslatesAll (job_of command) (S.state source.old) (S.state source.new) (K.state sink.old) (K.state sink.new)) }
+    // and where all of that is lawful the status is 0;
+    ensures complete { result ≢ 1 → result ≢ 6 → IfOk (command_of (texts words.now)) (λ command.
+        IsComplete (job_of command) result (S.state source.old) (S.state source.new) (K.state sink.old) (K.state sink.new)) }
     // with status 0 all of it was lawful,
-    ensures whole { result ≡ 0 → IfSome (job_of (texts words.now)) (λ job.
-        RelaysAll job (S.state source.old) (S.state source.new) (K.state sink.old) (K.state sink.new)) }
+    ensures whole { result ≡ 0 → IfOk (command_of (texts words.now)) (λ command.
+        RelaysAll (job_of command) (S.state source.old) (S.state source.new) (K.state sink.old) (K.state sink.new)) }
     // and each status has its cause.
     ensures caused { result ≢ 1 → result ≢ 6 → HasCause result (S.state source.old) (S.state source.new) (K.state sink.old) (K.state sink.new) }
 {
-    let Some(job) = read_words(words) else {
-        return USAGE;
-    };
-    let Ok(mut intake) = Intake::make(alloc, BUFFER_LEN) else {
-        return OUT_OF_MEMORY;
-    };
     causes_of_statuses();
+    complete_where_lawful();
     translates_all();
     whole_on_status_0();
-    status_of(relay(&job, source, sink, &mut intake))
+    match read_words(words) {
+        Ok(command) => run(alloc, command, source, sink, faults),
+        Err(usage) => {
+            tell(faults, Told::Usage { word: usage.word });
+            USAGE
+        }
+    }
+}
+
+fn run<S: Source, K: Sink, E: Sink>(
+    alloc: Global,
+    command: Command,
+    source: &mut S,
+    sink: &mut K,
+    faults: &mut E,
+) -> u8
+    requires { IsInRange (job_of command) }
+    ensures { Copies (job_of command) result (S.state source.old) (S.state source.new) (K.state sink.old) (K.state sink.new) (E.state faults.old) (E.state faults.new) }
+{
+    match command {
+        Command::Copy { job } => copy(alloc, &job, source, sink, faults),
+    }
+}
+
+/// Relays as the job says, and tells of it.
+fn copy<S: Source, K: Sink, E: Sink>(
+    alloc: Global,
+    job: &Job,
+    source: &mut S,
+    sink: &mut K,
+    faults: &mut E,
+) -> u8
+    requires { IsInRange job.now }
+    ensures { Copies job.now result (S.state source.old) (S.state source.new) (K.state sink.old) (K.state sink.new) (E.state faults.old) (E.state faults.new) }
+{
+    let Ok(mut intake) = Intake::make(alloc, segments_of(job) * job.seg) else {
+        tell(faults, Told::Memory);
+        return OUT_OF_MEMORY;
+    };
+    let report = relay(job, source, sink, &mut intake);
+    tell(faults, Told::Relay { report });
+    status_of(report.outcome)
 }
 
 fn status_of(outcome: Outcome) -> u8

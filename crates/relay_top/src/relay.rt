@@ -3,7 +3,7 @@
 ghost use Rattle.std.specs.Prelude.{◌≡◌, ◌+◌, ◌^◌, ◌<◌, ◌≤◌, ◌↔◌, [], false, IsTrue, None};
 ghost use Rattle.frame_model.specs.Ending.{is_at_end as is_at_end_of, outcome_of};
 ghost use Rattle.frame_model.specs.Spelling.{longest_frame};
-ghost use Rattle.relay_model.specs.Run.{IsRelayedTo};
+ghost use Rattle.relay_model.specs.Run.{IsReported};
 ghost use Rattle.relay_top.specs.Relay.{ending_of, Finishes};
 ghost use Rattle.relay_top.specs.Drain.{verdict_of};
 
@@ -11,28 +11,44 @@ use crate::drain::{Drained, Stop, drain};
 use crate::intake::Intake;
 use edge_core::{Sink, Source};
 use frame_grammar::Job;
-use frame_model::{FillEnd, Outcome};
+use frame_model::{FillEnd, Outcome, Report};
 
-/// Relays a source to a sink, and says how that ended. `intake` is empty at first.
+/// Relays a source to a sink, and reports how that ended. `intake` is empty at first.
 pub fn relay<S: Source, K: Sink>(
     job: &Job,
     source: &mut S,
     sink: &mut K,
     intake: &mut Intake,
-) -> Outcome
+) -> Report
     requires empty { (intake.old.held ≡ []) × (intake.old.taken ≡ 0) }
     requires room { longest_frame job.now.input job.now.max ≤ intake.old.size }
-    ensures { IsRelayedTo job.now result (S.state source.old) (S.state source.new) (K.state sink.old) (K.state sink.new) }
+    requires limit { job.now.limit ≤ 2 ^ 40 }
+    ensures { IsReported job.now result (S.state source.old) (S.state source.new) (K.state sink.old) (K.state sink.new) }
 {
+    let mut written = 0;
     loop {
         let ending = intake.take(source, job.limit);
-        let Ok(drained) = drain(job, intake.held(), is_at_end(ending), sink) else {
-            return Outcome::WriteFault;
-        };
-        if !goes_on(ending, drained.stop) {
-            return finish(ending, drained, intake.place(), sink);
+        match drain(job, intake.held(), is_at_end(ending), sink) {
+            Ok(drained) => {
+                written += drained.written;
+                if !goes_on(ending, drained.stop) {
+                    let outcome = finish(ending, drained, intake.place(), sink);
+                    return Report {
+                        outcome,
+                        taken: intake.taken(),
+                        written,
+                    };
+                }
+                intake.pass(drained.passed);
+            }
+            Err(broken) => {
+                return Report {
+                    outcome: Outcome::WriteFault,
+                    taken: intake.taken(),
+                    written: written + broken.written,
+                };
+            }
         }
-        intake.pass(drained.passed);
     }
 }
 

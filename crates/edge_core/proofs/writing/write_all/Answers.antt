@@ -7,10 +7,10 @@ pub loop-rest-preserved : goal.loop-rest-preserved
 loop-rest-preserved g c =
     let i = c.loop-rest.invariant in
     let rest = c.loop-rest.rest.now in
-    let n = c.in_ok-taken.taken in
+    let n = c.in-Ok.taken in
     record {
       done = i.done ++ take n rest;
       parts = rw (take_rest rest n, append_assoc i.done (take n rest) (drop n rest), take-append-drop n rest) i.parts;
-      taken = Takes-trans _ _ _ i.done (take n rest) i.taken c.in_ok-taken.ensures.taken;
+      taken = Takes-trans _ _ _ i.done (take n rest) i.taken c.in-Ok.ensures.taken;
       uncalled = λ (empty : c.args.piece.now ≡ []). absurd (grind (arith, ap length empty, ap length i.parts, length-append i.done rest));
     }

@@ -6,7 +6,7 @@ use Rattle.relay_top.proofs.relay.relay.Given as goal
 
 abbrev pub invariant-loop-drained : goal.invariant-loop-drained
 invariant-loop-drained g l = record {
-  come : HasCome l.job (g.S.Source.state l.fn.source) (g.S.Source.state l.source) (g.K.Sink.state l.fn.sink) (g.K.Sink.state l.sink) l.intake.held l.intake.taken;
+  come : HasCome l.job (g.S.Source.state l.fn.source) (g.S.Source.state l.source) (g.K.Sink.state l.fn.sink) (g.K.Sink.state l.sink) l.intake.held l.intake.taken l.written;
   short : length l.intake.held < longest_frame l.job.input l.job.max;
   room : longest_frame l.job.input l.job.max ≤ l.intake.size;
 }

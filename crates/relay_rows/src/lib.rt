@@ -1,0 +1,5 @@
+//! Tables of cases of the relay's commands: what goes in, and what is to come out.
+#![tactic(auto)]
+
+#[cfg(test)]
+mod copy;

@@ -1,0 +1,19 @@
+//! What words ask for.
+
+use frame_grammar::Job;
+use thiserror::Error;
+
+/// What a command does.
+#[derive(Clone, Copy, Debug, PartialEq, Eq)]
+pub enum Command {
+    /// Relays the source to the sink on one thread.
+    Copy { job: Job },
+}
+
+/// Words that are no command. `word` is the index, from 0, of the first one that can't be read where it stands, or the
+/// number of words where one is missing.
+#[derive(Clone, Copy, Debug, PartialEq, Eq, Error)]
+#[error("usage: word {word}")]
+pub struct Usage {
+    pub word: usize,
+}

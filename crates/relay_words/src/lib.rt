@@ -1,0 +1,13 @@
+//! The words of the relay's commands, and the jobs that they ask for.
+#![tactic(auto)]
+
+mod cases;
+mod command;
+mod number;
+#[cfg(test)]
+mod tests;
+mod words;
+
+pub use cases::{number_cases, word_cases};
+pub use command::{Command, Usage};
+pub use words::read_words;
