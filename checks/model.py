@@ -1,6 +1,4 @@
-"""What `relay copy` writes and answers, from the page on framings, by other means than the program's own."""
-
-LIMIT = 1 << 40
+"""What `relay copy` writes and answers, from the pages on framings and commands, by other means than the program's own."""
 
 
 def spell(framing, payload):
@@ -16,38 +14,38 @@ def spell(framing, payload):
 
 
 def cut(framing, greatest, data):
-    """The frames of a whole input as (place, payload), and why they end: ("end",), ("rest", place) or ("bad", place)."""
+    """The frames of a whole input as (place, payload), and the status and the line that end them."""
     frames, place = [], 0
     while place < len(data):
         if framing == "line":
             line, feed, _ = data[place:].partition(b"\n")
             if len(line) > greatest:
-                return frames, ("bad", place)
+                return frames, 2, f"bad frame at {place}: length {greatest + 1}\n"
             frames.append((place, line))
             place += len(line) + len(feed)
         else:
             size = {"len4": 4, "len2": 2}[framing]
             head = data[place:place + size]
             if len(head) < size:
-                return frames, ("rest", place)
+                return frames, 3, f"truncated at {place}\n"
             length = int.from_bytes(head, "big")
             if length > greatest:
-                return frames, ("bad", place)
+                return frames, 2, f"bad frame at {place}: length {length}\n"
             payload = data[place + size:place + size + length]
             if len(payload) < length:
-                return frames, ("rest", place)
+                return frames, 3, f"truncated at {place}\n"
             frames.append((place, payload))
             place += size + length
-    return frames, ("end",)
+    return frames, 0, ""
 
 
 def copy(source, sink, greatest, data):
-    """What is written for a whole input, and the status."""
-    frames, why = cut(source, greatest, data)
+    """What is written for a whole input, the status and the line on standard error."""
+    frames, status, line = cut(source, greatest, data)
     out = b""
-    for _, payload in frames:
+    for place, payload in frames:
         frame = spell(sink, payload)
         if isinstance(frame, int):
-            return out, 2
+            return out, 2, f"bad frame at {place}: byte {frame}\n".encode()
         out += frame
-    return out, {"end": 0, "rest": 3, "bad": 2}[why[0]]
+    return out, status, line.encode()

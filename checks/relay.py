@@ -3,6 +3,7 @@
 usage: relay.py PROGRAM
 """
 
+import itertools
 import os
 import random
 import resource
@@ -15,8 +16,11 @@ import threading
 import model
 
 PROGRAM = sys.argv[1]
-GREATEST = 65536
+FRAMINGS = ["len4", "len2", "line"]
+USUAL_MAX = 65536
 SECONDS = 30
+COPY = ["copy", "len4", "line"]
+FRAME = b"\0\0\0\2hi"
 failures = []
 passed = 0
 
@@ -33,6 +37,13 @@ def start(words, **streams):
     return subprocess.Popen([PROGRAM, *words], stderr=subprocess.PIPE, **streams)
 
 
+def end(program):
+    """The status and the line of a program that no longer waits for input."""
+    with program.stderr:
+        line = program.stderr.read()
+    return program.wait(timeout=SECONDS), line
+
+
 def feed(pipe, pieces):
     try:
         for piece in pieces:
@@ -44,16 +55,15 @@ def feed(pipe, pieces):
 
 
 def run(words, pieces):
-    """Standard output and status of a run that is fed these pieces through a pipe."""
+    """Standard output, status and line of a run that is fed these pieces through a pipe."""
     program = start(words, stdin=subprocess.PIPE, stdout=subprocess.PIPE)
     feeder = threading.Thread(target=feed, args=(program.stdin, pieces))
     feeder.start()
-    output = program.stdout.read()
-    status = program.wait(timeout=SECONDS)
+    with program.stdout:
+        output = program.stdout.read()
+    status, line = end(program)
     feeder.join()
-    program.stdout.close()
-    program.stderr.close()
-    return output, status
+    return output, status, line
 
 
 def pieces_of(data, rng):
@@ -65,14 +75,14 @@ def pieces_of(data, rng):
     return pieces
 
 
-def some_frames(framing, rng):
+def some_frames(framing, greatest, rng):
     """Mostly good frames, now and then one that is too big, has a line feed or is broken off."""
     data = b""
     for _ in range(rng.randrange(8)):
-        size = rng.choice([0, 1, 2, 80, 4095, GREATEST, GREATEST + 1]) if rng.random() < 0.3 else rng.randrange(40)
+        edges = [0, 1, 2, 80, 4095, 65535, greatest, greatest + 1]
+        size = rng.choice(edges) if rng.random() < 0.3 else rng.randrange(40)
         byte = rng.choice(b"\r ab\xff" if rng.random() < 0.9 else b"\n")
-        payload = bytes([byte]) * size
-        frame = model.spell(framing, payload)
+        frame = model.spell(framing, bytes([byte]) * size)
         data += frame if isinstance(frame, bytes) else b""
     if rng.random() < 0.3:
         data = data[:rng.randrange(len(data) + 1)]
@@ -80,88 +90,100 @@ def some_frames(framing, rng):
 
 
 def named_cases():
-    frame = b"\0\0\0\2hi"
     cases = [
-        ("a frame", frame, b"hi\n", 0),
-        ("nothing", b"", b"", 0),
-        ("an empty payload", b"\0\0\0\0", b"\n", 0),
-        ("the greatest payload", b"\0\1\0\0" + b"a" * GREATEST, b"a" * GREATEST + b"\n", 0),
-        ("a payload that is too big", b"\0\1\0\1", b"", 2),
-        ("a line feed within a payload", b"\0\0\0\1a" + b"\0\0\0\2a\n" + b"\0\0\0\1b", b"a\n", 2),
-        ("a payload broken off", b"\0\0\0\5h", b"", 3),
-        ("a head broken off", frame + b"\0\0", b"hi\n", 3),
+        ("a frame", FRAME, b"hi\n", 0, b""),
+        ("nothing", b"", b"", 0, b""),
+        ("an empty payload", b"\0\0\0\0", b"\n", 0, b""),
+        ("the greatest payload", b"\0\1\0\0" + b"a" * USUAL_MAX, b"a" * USUAL_MAX + b"\n", 0, b""),
+        ("a payload that is too big", b"\0\1\0\1", b"", 2, b"bad frame at 0: length 65537\n"),
+        ("a line feed within a payload", b"\0\0\0\1a\0\0\0\2a\n\0\0\0\1b", b"a\n", 2, b"bad frame at 5: byte 1\n"),
+        ("a payload broken off", b"\0\0\0\5h", b"", 3, b"truncated at 0\n"),
+        ("a head broken off", FRAME + b"\0\0", b"hi\n", 3, b"truncated at 6\n"),
     ]
-    for name, data, output, status in cases:
-        check(name, run(["copy", "len4", "line"], [data]), (output, status))
+    for name, data, output, status, line in cases:
+        check(name, run(COPY, [data]), (output, status, line))
         single = [bytes([byte]) for byte in data[:200]] + [data[200:]]
-        check(name + ", byte by byte", run(["copy", "len4", "line"], single), (output, status))
+        check(name + ", byte by byte", run(COPY, single), (output, status, line))
 
 
-def random_cases(pairs, count):
+def random_cases(count):
+    """Random inputs, in random pieces, for each pair of framings and several greatest payloads."""
     rng = random.Random(17)
-    for source, sink in pairs:
+    for source, sink in itertools.product(FRAMINGS, FRAMINGS):
         for number in range(count):
-            data = some_frames(source, rng)
-            wanted = model.copy(source, sink, GREATEST, data)
-            name = f"copy {source} {sink}, random input {number}"
-            check(name, run(["copy", source, sink], pieces_of(data, rng)), wanted)
+            greatest = rng.choice([USUAL_MAX, USUAL_MAX, 0, 1, 39, 200000])
+            keys = [] if greatest == USUAL_MAX else [f"max={greatest}"]
+            data = some_frames(source, greatest, rng)
+            wanted = model.copy(source, sink, greatest, data)
+            name = f"copy {source} {sink} {greatest}, random input {number}"
+            check(name, run(["copy", source, sink, *keys], pieces_of(data, rng)), wanted)
 
 
 def wrong_words():
-    for words in [[], ["copy"], ["copy", "len4"], ["copy", "len4", "lines"], ["Copy", "len4", "line"],
-                  ["copy", "len4", "line", "x"], ["--help", "x"], ["--verbose"], [b"\xff"]]:
-        check(f"words {words}", run(words, [b"\0\0\0\2hi"]), (b"", 1))
+    cases = [
+        ([], 0), (["Copy", "len4", "line"], 0), (["--help", "x"], 0), (["--verbose"], 0), (["copy"], 1), (["copy", "len4"], 2),
+        (["copy", "len4", "lines"], 2), ([*COPY, "x"], 3), ([*COPY, "max=01"], 3), ([*COPY, "max=16777217"], 3),
+        ([*COPY, "max=1", "max=1"], 4),
+    ]
+    for words, index in cases:
+        check(f"words {words}", run(words, [FRAME]), (b"", 1, f"usage: word {index}\n".encode()))
+    check("a word that is no text", run([b"copy", b"\xff"], [FRAME]), (b"", 1, b"usage: a word is not text\n"))
 
 
 def help_and_version():
-    output, status = run(["--help"], [])
-    check("--help", (b"usage: relay copy" in output, status), (True, 0))
-    output, status = run(["--version"], [])
-    check("--version", (output.startswith(b"relay "), status), (True, 0))
+    output, status, line = run(["--help"], [])
+    check("--help", (b"usage: relay copy" in output, status, line), (True, 0, b""))
+    output, status, line = run(["--version"], [])
+    check("--version", (output.startswith(b"relay "), status, line), (True, 0, b""))
     with open("/dev/full", "wb") as full:
-        check("--help on a full device", start(["--help"], stdout=full).wait(timeout=SECONDS), 5)
+        check("--help on a full device", end(start(["--help"], stdout=full))[0], 5)
 
 
 def devices():
-    frame = b"\0\0\0\2hi"
     with tempfile.TemporaryDirectory() as folder:
         path = os.path.join(folder, "frames")
         with open(path, "wb") as file:
-            file.write(frame * 1000)
+            file.write(FRAME * 1000)
         with open(path, "rb") as source, open(os.path.join(folder, "lines"), "w+b") as sink:
-            check("a file to a file", start(["copy", "len4", "line"], stdin=source, stdout=sink).wait(timeout=SECONDS), 0)
+            check("a file to a file", end(start(COPY, stdin=source, stdout=sink)), (0, b""))
             sink.seek(0)
             check("what the file holds", sink.read(), b"hi\n" * 1000)
         with open(path, "rb") as source, open("/dev/full", "wb") as full:
-            check("a full device", start(["copy", "len4", "line"], stdin=source, stdout=full).wait(timeout=SECONDS), 5)
+            check("a full device", end(start(COPY, stdin=source, stdout=full)), (5, b"write fault after 0\n"))
         with open(path, "ab") as unreadable:
-            check("an input that can't be read",
-                  start(["copy", "len4", "line"], stdin=unreadable, stdout=subprocess.DEVNULL).wait(timeout=SECONDS), 4)
+            program = start(COPY, stdin=unreadable, stdout=subprocess.DEVNULL)
+            check("an input that can't be read", end(program), (4, b"read fault after 0\n"))
         directory = os.open(folder, os.O_RDONLY)
-        check("an input that is a folder",
-              start(["copy", "len4", "line"], stdin=directory, stdout=subprocess.DEVNULL).wait(timeout=SECONDS), 4)
+        program = start(COPY, stdin=directory, stdout=subprocess.DEVNULL)
+        check("an input that is a folder", end(program), (4, b"read fault after 0\n"))
         os.close(directory)
+
+
+def faults_that_cannot_be_told():
+    with open("/dev/full", "wb") as full:
+        program = subprocess.Popen([PROGRAM, "copy"], stderr=full)
+        check("a full standard error", program.wait(timeout=SECONDS), 1)
 
 
 def reader_gone():
     read_end, write_end = os.pipe()
     os.close(read_end)
-    program = start(["copy", "len4", "line"], stdin=subprocess.PIPE, stdout=write_end)
+    program = start(COPY, stdin=subprocess.PIPE, stdout=write_end)
     os.close(write_end)
-    feed(program.stdin, [b"\0\0\0\2hi" * 100])
-    check("a reader that is gone", program.wait(timeout=SECONDS), 5)
+    feed(program.stdin, [FRAME * 100])
+    check("a reader that is gone", end(program), (5, b"write fault after 0\n"))
 
 
 def passed_on_at_once():
     """A whole frame that has come is written before more input is waited for."""
-    program = start(["copy", "len4", "line"], stdin=subprocess.PIPE, stdout=subprocess.PIPE)
+    program = start(COPY, stdin=subprocess.PIPE, stdout=subprocess.PIPE)
     for payload in [b"first", b"second"]:
         program.stdin.write(model.spell("len4", payload))
         program.stdin.flush()
         ready, _, _ = select.select([program.stdout], [], [], SECONDS)
         check("a frame passed on at once", os.read(program.stdout.fileno(), 100) if ready else None, payload + b"\n")
     program.stdin.close()
-    check("its end", program.wait(timeout=SECONDS), 0)
+    check("its end", end(program), (0, b""))
     program.stdout.close()
 
 
@@ -170,18 +192,19 @@ def want_of_memory():
     def limit(size):
         return lambda: resource.setrlimit(resource.RLIMIT_AS, (size, size))
     for size in [3, 4, 5, 6, 8, 12, 16]:
-        program = start(["copy", "len4", "line"], stdin=subprocess.PIPE, stdout=subprocess.PIPE, preexec_fn=limit(size << 20))
-        output, _ = program.communicate(b"\0\0\0\2hi", timeout=SECONDS)
+        program = start(COPY, stdin=subprocess.PIPE, stdout=subprocess.PIPE, preexec_fn=limit(size << 20))
+        output, line = program.communicate(FRAME, timeout=SECONDS)
         # The system itself ends a program that it can't load (127 or a signal): that says nothing of the program.
         if program.returncode in (0, 6):
-            check(f"{size} MiB", output, b"hi\n" if program.returncode == 0 else b"")
+            check(f"{size} MiB", (output, line), (b"hi\n", b"") if program.returncode == 0 else (b"", b"out of memory\n"))
 
 
 named_cases()
-random_cases([("len4", "line")], 60)
+random_cases(20)
 wrong_words()
 help_and_version()
 devices()
+faults_that_cannot_be_told()
 reader_gone()
 passed_on_at_once()
 want_of_memory()

@@ -23,18 +23,20 @@ fn main(rt: HostRuntime) -> ExitCode {
 }
 
 fn run(rt: &HostRuntime) -> u8 {
+    let mut output = WriteEdge::new(rt.stdout());
+    let mut faults = WriteEdge::new(rt.stderr());
     let words = match words(rt) {
         Ok(words) => words,
-        Err(error) if error.kind() == io::ErrorKind::OutOfMemory => return OUT_OF_MEMORY,
-        Err(_) => return USAGE,
+        Err(error) if error.kind() == io::ErrorKind::OutOfMemory => {
+            return tell(&mut faults, "out of memory\n", OUT_OF_MEMORY);
+        }
+        Err(_) => return tell(&mut faults, "usage: a word is not text\n", USAGE),
     };
-    let mut output = WriteEdge::new(rt.stdout());
     match only_word(words.as_slice()) {
-        Some("--help") => tell(&mut output, HELP),
-        Some("--version") => tell(&mut output, VERSION),
+        Some("--help") => print(&mut output, HELP),
+        Some("--version") => print(&mut output, VERSION),
         _ => {
             let mut input = ReadEdge::new(rt.stdin());
-            let mut faults = WriteEdge::new(rt.stderr());
             relay_local(
                 rt.alloc(),
                 words.as_slice(),
@@ -62,9 +64,16 @@ fn only_word(words: &[String]) -> Option<&str> {
     }
 }
 
-fn tell<K: Sink>(output: &mut K, text: &str) -> u8 {
+/// Writes what was asked for, and answers the status.
+fn print<K: Sink>(output: &mut K, text: &str) -> u8 {
     if write_all(output, text.as_bytes()).is_err() {
         return WRITE_FAULT;
     }
     0
+}
+
+/// Tells of a fault, as far as that can be written, and answers its status.
+fn tell<K: Sink>(faults: &mut K, line: &str, status: u8) -> u8 {
+    let _ = write_all(faults, line.as_bytes());
+    status
 }
