@@ -1,0 +1,4 @@
+pub mod PauseLemmas
+pub mod RunLemmas
+pub mod OrderLemmas
+pub mod StandingLemmas

@@ -1,0 +1,20 @@
+//! A byte pipe on one thread: what it answers, as questions about its whole history, and a control and a pipe that do so.
+//! The definitions stand in `specs/`; the functions of `laws` and `cases` are their laws and worked cases, and do nothing.
+#![tactic(auto)]
+
+mod cases;
+mod control;
+mod laws;
+mod marks;
+mod reply;
+
+pub use cases::{
+    canceled_flush_leaves_pause, canceled_read_keeps_bytes, commit_during_a_lend,
+    examined_never_falls, most_bytes, pause_ends_below_resume, reader_gone_ends_pause,
+};
+pub use control::Control;
+pub use laws::{
+    latest_first, never_both, pauses_in_words, pending_flush_is_due, runs_are_the_lend,
+    waiting_read_has_seen_all,
+};
+pub use reply::{FlushReply, ReadReply, TooMuch, Wake};
