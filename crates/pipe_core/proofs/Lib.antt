@@ -2,3 +2,5 @@ pub mod PauseLemmas
 pub mod RunLemmas
 pub mod OrderLemmas
 pub mod StandingLemmas
+pub mod BufferLemmas
+pub mod PipeLemmas

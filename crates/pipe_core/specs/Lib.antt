@@ -10,3 +10,6 @@ pub mod Answers
 pub mod Cases
 pub mod Standing
 pub mod Control
+pub mod Bytes
+pub mod Lending
+pub mod Pipe

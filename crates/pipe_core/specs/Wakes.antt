@@ -1,5 +1,5 @@
 -- Whom a call wakes.
-use Rattle.std.specs.Prelude.{ℕ, Bool, not, ◌&&◌, List, [], ◌∷◌}
+use Rattle.std.specs.Prelude.{ℕ, Bool, false, not, ◌&&◌, ◌||◌, List, [], ◌∷◌, ◌++◌}
 use Rattle.pipe_core.specs.declared.reply.Wake.{Wake}
 use Rattle.pipe_core.specs.History.{Call}
 use Rattle.pipe_core.specs.Reads.{read_is_ready, reader_waits}
@@ -14,3 +14,11 @@ wakes_writer pause resume call h = writer_waits pause resume h && not (flush_is_
 
 abbrev pub wake_of : ℕ → ℕ → Call → List Call → Wake
 wake_of pause resume call h = record { reader = wakes_reader call h; writer = wakes_writer pause resume call h }
+
+abbrev pub either_wake : Wake → Wake → Wake
+either_wake a b = record { reader = a.reader || b.reader; writer = a.writer || b.writer }
+
+-- Several calls, the latest first, wake an end where one of them does.
+abbrev pub wakes_of : ℕ → ℕ → List Call → List Call → Wake
+wakes_of pause resume [] h = record { reader = false; writer = false }
+wakes_of pause resume (call ∷ calls) h = either_wake (wake_of pause resume call (calls ++ h)) (wakes_of pause resume calls h)

@@ -1,6 +1,6 @@
 //! A pipe's marks and flags, and what each call answers by them.
 
-ghost use Rattle.std.specs.Prelude.{◌≡◌, ◌+◌, ◌^◌, ◌<◌, ◌↔◌, ℕ, List, [], length, IsNone, IsErr, IfErr, IfOk, OnErr};
+ghost use Rattle.std.specs.Prelude.{◌≡◌, ◌+◌, ◌^◌, ◌<◌, ◌↔◌, ℕ, List, [], length, is_some, Some, IsSome, IsNone, IsErr, IfErr, IfOk, OnErr};
 ghost use Rattle.pipe_core.specs.History.{Run, Commit, EndWriter, Read, Advance, EndReader, CancelRead, CancelFlush, bytes_of};
 ghost use Rattle.pipe_core.specs.Answers.{Flushed, Gave, Woke};
 ghost use Rattle.pipe_core.specs.Standing.{StandsFor, AreThresholds, MayAdvance, Answers};
@@ -195,5 +195,20 @@ impl Control {
         };
         self.marks = after;
         after.woken_since(&before)
+    }
+
+    // Whether the reader has completed.
+    pub(crate) fn is_reader_gone(&self) -> bool
+        ensures { result ≡ is_some self.now.gone }
+    {
+        self.marks.gone.is_some()
+    }
+
+    // The length of the lend.
+    pub(crate) fn lent_len(&self) -> u64
+        requires { IsSome self.now.lent }
+        ensures { self.now.lent ≡ Some result }
+    {
+        self.marks.lent.unwrap_or(0)
     }
 }

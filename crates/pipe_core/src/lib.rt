@@ -2,10 +2,12 @@
 //! The definitions stand in `specs/`; the functions of `laws` and `cases` are their laws and worked cases, and do nothing.
 #![tactic(auto)]
 
+mod buffer;
 mod cases;
 mod control;
 mod laws;
 mod marks;
+mod plain_pipe;
 mod reply;
 
 pub use cases::{
@@ -17,4 +19,5 @@ pub use laws::{
     latest_first, never_both, pauses_in_words, pending_flush_is_due, runs_are_the_lend,
     waiting_read_has_seen_all,
 };
+pub use plain_pipe::PlainPipe;
 pub use reply::{FlushReply, ReadReply, TooMuch, Wake};

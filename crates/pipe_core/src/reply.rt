@@ -45,6 +45,21 @@ pub struct Wake {
     pub writer: bool,
 }
 
+impl Wake {
+    ghost use Rattle.std.specs.Prelude.{◌≡◌};
+    ghost use Rattle.pipe_core.specs.Wakes.{either_wake};
+
+    // Whom one of two calls wakes.
+    pub(crate) fn or(self, other: Wake) -> Wake
+        ensures { result ≡ either_wake self other }
+    {
+        Wake {
+            reader: self.reader || other.reader,
+            writer: self.writer || other.writer,
+        }
+    }
+}
+
 /// A commit that would take the total past 2^62 bytes. Nothing was changed by it.
 #[derive(Clone, Copy, Debug, PartialEq, Eq)]
 pub struct TooMuch {
