@@ -4,3 +4,5 @@ pub mod OrderLemmas
 pub mod StandingLemmas
 pub mod BufferLemmas
 pub mod PipeLemmas
+pub mod WakeLemmas
+pub mod StepLemmas

@@ -22,7 +22,7 @@ use Rattle.pipe_core.specs.Control.{reads_now, flush_goes, flushes_now, woken, t
 use Rattle.pipe_core.proofs.OrderLemmas.{ordered, total_commit}
 
 -- while a pause stands there are bytes enough
-stands_over : (pause resume : ℕ) (h : List Call) → pause_stands pause resume h ≡ true → nat_le resume (unexamined h) ≡ true
+pub stands_over : (pause resume : ℕ) (h : List Call) → pause_stands pause resume h ≡ true → nat_le resume (unexamined h) ≡ true
 stands_over pause resume [] t = absurd cc
 stands_over pause resume (call ∷ h) t = (and_parts (nat_le resume (unexamined (call ∷ h))) (begins_pause pause call h || pause_stands pause resume h) t).0
 
@@ -32,7 +32,7 @@ keeps true false imp = refl
 keeps false false imp = refl
 
 -- a call that begins no pause and changes no mark leaves the pause
-paused_on : (pause resume : ℕ) (h : List Call) → is_paused pause resume h ≡ nat_lt 0 pause && is_none (reader_end h) && (nat_le resume (unexamined h) && pause_stands pause resume h)
+pub paused_on : (pause resume : ℕ) (h : List Call) → is_paused pause resume h ≡ nat_lt 0 pause && is_none (reader_end h) && (nat_le resume (unexamined h) && pause_stands pause resume h)
 paused_on pause resume h = ap (λ (b : Bool). nat_lt 0 pause && is_none (reader_end h) && b) (sym (keeps (nat_le resume (unexamined h)) (pause_stands pause resume h) (stands_over pause resume h)))
 
 not_both : (a b : ℕ) → nat_lt a b && nat_le b a ≡ false

@@ -2,7 +2,9 @@
 
 ghost use Rattle.std.specs.Prelude.{◌≡◌, ◌+◌, ◌^◌, ℕ, List, [], ◌∷◌, length, reverse, Option, Some, None, true, false};
 ghost use Rattle.pipe_core.specs.History.{Call, Run, Commit, EndWriter, Read, Advance, EndReader, CancelRead, CancelFlush};
-ghost use Rattle.pipe_core.specs.Progress.{examined};
+ghost use Rattle.pipe_core.specs.Progress.{examined, total};
+ghost use Rattle.pipe_core.specs.Flushes.{reply_to_commit};
+ghost use Rattle.pipe_core.specs.Lends.{lend, lent_runs};
 ghost use Rattle.pipe_core.specs.Legal.{IsLegal};
 ghost use Rattle.pipe_core.specs.Answers.{answers, Flushed, Gave, Woke};
 ghost use Rattle.pipe_core.specs.Cases.{commit, flushed, nobody, the_reader, the_writer};
@@ -58,9 +60,35 @@ pub fn canceled_flush_leaves_pause()
 
 /// A pipe takes 2^62 bytes and no more.
 pub fn most_bytes()
+    ensures ready { (bytes : List ℕ) → reply_to_commit 0 1 [] (record { segment = 0; bytes = bytes } ∷ []) ≡ flushed }
+    ensures ready_again { (bytes : List ℕ) → reply_to_commit 0 1 (Commit (record { segment = 0; bytes = bytes } ∷ []) ∷ []) [] ≡ flushed }
     ensures most { (bytes : List ℕ) → length bytes ≡ 2 ^ 62 → IsLegal (Commit (record { segment = 0; bytes = bytes } ∷ []) ∷ []) }
     ensures more { (bytes : List ℕ) (b : ℕ) → length bytes ≡ 2 ^ 62 →
         IsLegal (Commit (record { segment = 0; bytes = b ∷ [] } ∷ []) ∷ Commit (record { segment = 0; bytes = bytes } ∷ []) ∷ []) → ⊥ }
     ensures none { (bytes : List ℕ) → length bytes ≡ 2 ^ 62 →
         IsLegal (Commit [] ∷ Commit (record { segment = 0; bytes = bytes } ∷ []) ∷ []) }
+{}
+
+/// A whole run: who waits, who is woken, and what each reply tells.
+pub fn whole_run()
+    ensures told { answers 8 4 (Read ∷ commit 3 ∷ Read ∷ commit 2 ∷ Advance 1 3 ∷ Read ∷ Advance 4 4 ∷ Read ∷ commit 8 ∷ EndWriter 0
+        ∷ Read ∷ Advance 8 8 ∷ Read ∷ EndReader 0 ∷ [])
+        ≡ Gave (read.Pending 0) nobody ∷ Flushed flushed the_reader
+        ∷ Gave (read.Ready false None 3) nobody ∷ Flushed flushed nobody ∷ Woke nobody
+        ∷ Gave (read.Ready false None 4) nobody ∷ Woke nobody ∷ Gave (read.Pending 5) nobody
+        ∷ Flushed (flush.Pending 8) the_reader ∷ Woke nobody
+        ∷ Gave (read.Ready false (Some 0) 8) nobody ∷ Woke nobody ∷ Gave (read.Ready false (Some 0) 0) nobody ∷ Woke nobody ∷ [] }
+    ensures legal { IsLegal (reverse (Read ∷ commit 3 ∷ Read ∷ commit 2 ∷ Advance 1 3 ∷ Read ∷ Advance 4 4 ∷ Read ∷ commit 8 ∷ EndWriter 0
+        ∷ Read ∷ Advance 8 8 ∷ Read ∷ EndReader 0 ∷ [])) }
+{}
+
+/// A lend shows what was committed when it was lent, in order, the bytes of one segment joined.
+pub fn lend_cases()
+    ensures lent { lend (Commit (record { segment = 0; bytes = 99 ∷ [] } ∷ []) ∷ Read ∷ Commit (record { segment = 0; bytes = 97 ∷ 98 ∷ [] } ∷ []) ∷ [])
+        ≡ Some (97 ∷ 98 ∷ []) }
+    ensures ended { lend (Advance 1 2 ∷ Read ∷ commit 2 ∷ []) ≡ None }
+    ensures runs { lent_runs (Advance 1 1 ∷ Read ∷ Commit (record { segment = 7; bytes = 99 ∷ [] } ∷ record { segment = 4; bytes = 100 ∷ [] } ∷ [])
+        ∷ Commit (record { segment = 7; bytes = 97 ∷ 98 ∷ [] } ∷ []) ∷ [])
+        ≡ record { segment = 7; bytes = 98 ∷ 99 ∷ [] } ∷ record { segment = 4; bytes = 100 ∷ [] } ∷ [] }
+    ensures dropped { total (Commit (record { segment = 0; bytes = 99 ∷ [] } ∷ []) ∷ EndReader 0 ∷ commit 2 ∷ []) ≡ 97 ∷ 97 ∷ [] }
 {}

@@ -1,6 +1,6 @@
-//! Laws of the definitions: functions with nothing to do, whose contracts are the laws.
+//! Laws of the definitions. These functions do nothing: what they ensure is the law.
 
-ghost use Rattle.std.specs.Prelude.{◌≡◌, ◌<◌, ◌≤◌, ◌↔◌, ◌⊎◌, ℕ, List, [], ◌∷◌, ◌++◌, reverse, length, IsTrue};
+ghost use Rattle.std.specs.Prelude.{◌≡◌, ◌<◌, ◌≤◌, ◌↔◌, ◌⊎◌, ℕ, List, [], ◌∷◌, ◌++◌, reverse, map, length, Bool, false, IsTrue, IsSome};
 ghost use Rattle.pipe_core.specs.History.{Run, Call, bytes_of};
 ghost use Rattle.pipe_core.specs.Progress.{held, total};
 ghost use Rattle.pipe_core.specs.Lends.{lent_runs};
@@ -9,7 +9,12 @@ ghost use Rattle.pipe_core.specs.Pauses.{IsPaused, is_paused};
 ghost use Rattle.pipe_core.specs.Reads.{reply_to_read};
 ghost use Rattle.pipe_core.specs.Flushes.{reply_to_commit};
 ghost use Rattle.pipe_core.specs.Legal.{IsLegal};
-ghost use Rattle.pipe_core.specs.History.{Commit};
+ghost use Rattle.pipe_core.specs.History.{Commit, EndWriter, Read, Advance, EndReader, CancelRead, CancelFlush, reader_end, writer_end};
+ghost use Rattle.pipe_core.specs.Wakes.{wakes_reader, wakes_writer};
+ghost use Rattle.pipe_core.specs.Answers.{Answer, answers};
+ghost use Rattle.pipe_core.specs.declared.marks.Marks.{Marks};
+ghost use Rattle.pipe_core.specs.Standing.{StandsFor, AnswersAll};
+ghost use Rattle.pipe_core.specs.Bytes.{overwritten};
 
 use crate::reply::{FlushReply, ReadReply};
 
@@ -44,4 +49,40 @@ pub fn latest_first()
 /// A read that waits has examined all that is committed.
 pub fn waiting_read_has_seen_all()
     ensures { (h : List Call) (examined : ℕ) → IsLegal h → reply_to_read h ≡ ReadReply.Pending examined → examined ≡ length (total h) }
+{}
+
+/// Whatever calls are made of a new control, in whatever order: each is answered as it is on the history so far, and the
+/// control then stands for the history of all of them.
+pub fn answers_to_all_calls()
+    ensures answers { (before after : Marks) (steps : List (Call × Answer)) → StandsFor before [] → AnswersAll before steps after →
+        map (λ step. step.1) steps ≡ answers before.pause before.resume (map (λ step. step.0) steps) }
+    ensures stands { (before after : Marks) (steps : List (Call × Answer)) → StandsFor before [] → AnswersAll before steps after →
+        StandsFor after (reverse (map (λ step. step.0) steps)) }
+{}
+
+/// An end that has completed, also by the very call, is never woken.
+pub fn completed_end_is_never_woken()
+    ensures reader { (call : Call) (h : List Call) → IsLegal (call ∷ h) → IsSome (reader_end (call ∷ h)) → wakes_reader call h ≡ false }
+    ensures writer { (pause resume : ℕ) (call : Call) (h : List Call) → IsLegal (call ∷ h) → IsSome (writer_end (call ∷ h)) →
+        wakes_writer pause resume call h ≡ false }
+{}
+
+/// No end is woken by a call of its own.
+pub fn no_end_wakes_itself()
+    ensures commit { (pause resume : ℕ) (runs : List Run) (h : List Call) → wakes_writer pause resume (Commit runs) h ≡ false }
+    ensures end_writer { (pause resume code : ℕ) (h : List Call) → wakes_writer pause resume (EndWriter code) h ≡ false }
+    ensures read { (h : List Call) → wakes_reader Read h ≡ false }
+    ensures advance { (c e : ℕ) (h : List Call) → wakes_reader (Advance c e) h ≡ false }
+    ensures end_reader { (code : ℕ) (h : List Call) → wakes_reader (EndReader code) h ≡ false }
+{}
+
+/// A cancellation of one end never reaches the other.
+pub fn cancellation_wakes_its_own_end()
+    ensures cancel_read { (pause resume : ℕ) (h : List Call) → wakes_writer pause resume CancelRead h ≡ false }
+    ensures cancel_flush { (h : List Call) → wakes_reader CancelFlush h ≡ false }
+{}
+
+/// Who wrote all of a loan has written all of what was lent.
+pub fn whole_loan_is_written()
+    ensures { (bytes written : List ℕ) → length written ≡ length bytes → overwritten bytes written ≡ written }
 {}

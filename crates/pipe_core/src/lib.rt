@@ -12,12 +12,17 @@ mod reply;
 
 pub use cases::{
     canceled_flush_leaves_pause, canceled_read_keeps_bytes, commit_during_a_lend,
-    examined_never_falls, most_bytes, pause_ends_below_resume, reader_gone_ends_pause,
+    examined_never_falls, lend_cases, most_bytes, pause_ends_below_resume, reader_gone_ends_pause,
+    whole_run,
 };
 pub use control::Control;
 pub use laws::{
-    latest_first, never_both, pauses_in_words, pending_flush_is_due, runs_are_the_lend,
-    waiting_read_has_seen_all,
+    answers_to_all_calls, cancellation_wakes_its_own_end, completed_end_is_never_woken,
+    latest_first, never_both, no_end_wakes_itself, pauses_in_words, pending_flush_is_due,
+    runs_are_the_lend, waiting_read_has_seen_all, whole_loan_is_written,
 };
 pub use plain_pipe::PlainPipe;
 pub use reply::{FlushReply, ReadReply, TooMuch, Wake};
+
+#[cfg(test)]
+mod tests;
