@@ -14,7 +14,7 @@ use Rattle.pipe_core.specs.Wakes.{wake_of, either_wake}
 use Rattle.pipe_core.specs.Answers.{Answer, Flushed, Woke}
 use Rattle.pipe_core.specs.Standing.{MayAdvance, Answers}
 use Rattle.pipe_core.specs.Bytes.{Bytes, capacity_of, settled}
-use Rattle.pipe_core.specs.Pipe.{Pipe, kept, HoldsFor, runs_of, closing, PipeAnswers, PipeWakes}
+use Rattle.pipe_core.specs.Pipe.{Pipe, kept, HoldsFor, runs_of, closing, PipeAnswers, PipeCloses}
 use Rattle.pipe_core.proofs.OrderLemmas.{ordered, total_commit}
 
 pub bytes_of_runs : (draft : List ℕ) → bytes_of (runs_of draft) ≡ draft
@@ -108,6 +108,9 @@ pipe_answers p q call answer a capacity holds = record {
   pause = a.pause;
   resume = a.resume;
   capacity = capacity;
+  ended = a.ended;
+  gone = a.gone;
+  lent = a.lent;
   told = λ h s. a.told h s.marks;
   stands = λ h s. record { marks = a.stands h s.marks; held = holds h s };
 }
@@ -131,11 +134,14 @@ unjoined w = rw (or-false w.reader, or-false w.writer) refl
 
 -- a completion with no draft is one call
 pub closes_alone : (p q : Pipe) (code : ℕ) (wake : Wake) → length p.bytes.draft ≡ 0 → Answers p.control (EndWriter code) (Woke wake) q.control → q.bytes ≡ p.bytes
-    → PipeWakes p (closing p.bytes.draft code) wake q
+    → PipeCloses p (closing p.bytes.draft code) wake q
 closes_alone p q code wake none a same = rw empty (record {
   pause = a.pause;
   resume = a.resume;
   capacity = ap capacity_of same;
+  ended = rw a.ended refl;
+  gone = a.gone;
+  lent = a.lent;
   told = λ h s. let e : Woke wake ≡ Woke (wake_of p.control.pause p.control.resume (EndWriter code) h) = a.told h s.marks in
       let f : wake ≡ wake_of p.control.pause p.control.resume (EndWriter code) h = cc in f ∙ unjoined (wake_of p.control.pause p.control.resume (EndWriter code) h);
   stands = λ h s. record { marks = a.stands h s.marks; held = ap (λ (b : Bytes). b.held) same ∙ s.held };
@@ -155,11 +161,14 @@ closing_some (b ∷ bytes) code some = refl
 -- a completion with a draft is a commit and a call
 pub closes_behind : (p m q : Pipe) (code : ℕ) (reply : FlushReply) (first second : Wake) → length p.bytes.draft ≢ 0
     → PipeAnswers p (Commit (runs_of p.bytes.draft)) (Flushed reply first) m → Answers m.control (EndWriter code) (Woke second) q.control → q.bytes ≡ m.bytes
-    → PipeWakes p (closing p.bytes.draft code) (either_wake second first) q
+    → PipeCloses p (closing p.bytes.draft code) (either_wake second first) q
 closes_behind p m q code reply first second some a b same = rw (closing_some p.bytes.draft code some) (record {
   pause = b.pause ∙ a.pause;
   resume = b.resume ∙ a.resume;
   capacity = ap capacity_of same ∙ a.capacity;
+  ended = rw b.ended refl;
+  gone = b.gone ∙ a.gone;
+  lent = b.lent ∙ a.lent;
   told = λ h s.
       let e = a.told h s in
       let f : first ≡ wake_of p.control.pause p.control.resume (Commit (runs_of p.bytes.draft)) h = cc in

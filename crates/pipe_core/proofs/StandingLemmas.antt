@@ -16,7 +16,7 @@ use Rattle.pipe_core.specs.Reads.{read_is_ready, reply_to_read}
 use Rattle.pipe_core.specs.Flushes.{flush_is_ready, reply_to_commit}
 use Rattle.pipe_core.specs.Wakes.{wake_of}
 use Rattle.pipe_core.specs.Lends.{lend}
-use Rattle.pipe_core.specs.Answers.{Flushed, Gave, Woke, answer_to}
+use Rattle.pipe_core.specs.Answers.{Flushed, Gave, Woke, answer_to, ended_after, gone_after, lent_after}
 use Rattle.pipe_core.specs.Standing.{StandsFor, AreThresholds, MayAdvance, IsSound, Answers}
 use Rattle.pipe_core.specs.Control.{reads_now, flush_goes, flushes_now, woken, total_with, pauses_at, pause_lasts}
 use Rattle.pipe_core.proofs.OrderLemmas.{ordered, total_commit}
@@ -100,10 +100,14 @@ sound_after m n call pause resume sound stands =
 -- a call whose only answer is its wake
 pub woke : (m n : Marks) (call : Call) (wake : Wake) → n.pause ≡ m.pause → n.resume ≡ m.resume → wake ≡ woken m n
     → ((h : List Call) → StandsFor m h → StandsFor n (call ∷ h))
-    → ((h : List Call) → answer_to m.pause m.resume call h ≡ Woke (wake_of m.pause m.resume call h)) → Answers m call (Woke wake) n
-woke m n call wake pause resume e stands only = record {
+    → ((h : List Call) → answer_to m.pause m.resume call h ≡ Woke (wake_of m.pause m.resume call h))
+    → n.ended ≡ ended_after call m.ended → n.gone ≡ gone_after call m.gone → n.lent ≡ lent_after call (Woke wake) m.lent → Answers m call (Woke wake) n
+woke m n call wake pause resume e stands only ended gone lent = record {
   pause = pause;
   resume = resume;
+  ended = ended;
+  gone = gone;
+  lent = lent;
   told = λ h s. ap Woke (e ∙ wake_is m n call h pause resume s (stands h s)) ∙ sym (only h);
   stands = stands;
 }
@@ -344,7 +348,12 @@ advances m c e x paused wake may mark is n new wakes =
     let stands : (h : List Call) → StandsFor m h → StandsFor n (Advance c e ∷ h) = λ h s. rw (new, is) (after_advance m c e x h may mark s) in
     let pause : n.pause ≡ m.pause = rw new refl in
     let resume : n.resume ≡ m.resume = rw new refl in
-    (λ sound. sound_after m n (Advance c e) pause resume sound stands, woke m n (Advance c e) wake pause resume wakes stands (λ h. refl))
+    (λ sound. sound_after m n (Advance c e) pause resume sound stands, woke m n (Advance c e) wake pause resume wakes stands (λ h. refl) (rw new refl) (rw new refl) (rw new refl))
+
+lent_told : (ready : Bool) (len : ℕ) (canceled : Bool) (ended : Option ℕ) (examined : ℕ) (reply : ReadReply) (wake : Wake) (lent : Option ℕ)
+    → reply ≡ cond ready (read.Ready canceled ended len) (read.Pending examined) → cond ready (Some len) None ≡ lent_after Read (Gave reply wake) lent
+lent_told true len canceled ended examined reply wake lent e = rw e refl
+lent_told false len canceled ended examined reply wake lent e = rw e refl
 
 -- a read, with the flag that says whether it is ready
 pub reads : (m : Marks) (ready : Bool) (lent : Option ℕ) (reply : ReadReply) (wake : Wake) → IsNone m.gone → IsNone m.lent → ready ≡ reads_now m
@@ -360,6 +369,9 @@ reads m ready lent reply wake attended no_lend is lends told n new woke =
       record {
         pause = pause;
         resume = resume;
+        ended = rw new refl;
+        gone = rw new refl;
+        lent = rw new (lends ∙ lent_told ready (m.committed - m.consumed) m.read_canceled m.ended m.examined reply wake m.lent told);
         told = λ h s.
             let reply_is : reply ≡ reply_to_read h = told ∙ (rw is (told_read m h s)) in
             let wake_is : wake ≡ wake_of m.pause m.resume Read h = woke ∙ wake_is m n Read h pause resume s (stands h s) in
@@ -381,6 +393,9 @@ commits m size t paused ready reply wake unended fits is goes told n new woke ru
       record {
         pause = pause;
         resume = resume;
+        ended = rw new refl;
+        gone = rw new refl;
+        lent = rw new refl;
         told = λ h s.
             let reply_is : reply ≡ reply_to_commit m.pause m.resume h runs = told ∙ (rw (goes, is) (told_commit m size t runs h len fits s)) in
             let wake_is : wake ≡ wake_of m.pause m.resume (Commit runs) h = woke ∙ wake_is m n (Commit runs) h pause resume s (stands h s) in

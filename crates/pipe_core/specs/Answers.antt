@@ -1,9 +1,10 @@
 -- What each call is answered, and how a whole list of calls is.
-use Rattle.std.specs.Prelude.{ℕ, List, [], ◌∷◌}
+use Rattle.std.specs.Prelude.{ℕ, List, [], ◌∷◌, Option, Some, None}
 use Rattle.pipe_core.specs.declared.reply.FlushReply.{FlushReply}
 use Rattle.pipe_core.specs.declared.reply.ReadReply.{ReadReply}
+use Rattle.pipe_core.specs.declared.reply.ReadReply.TheVariants as read
 use Rattle.pipe_core.specs.declared.reply.Wake.{Wake}
-use Rattle.pipe_core.specs.History.{Call, Commit, Read}
+use Rattle.pipe_core.specs.History.{Call, Commit, EndWriter, Read, Advance, EndReader}
 use Rattle.pipe_core.specs.Reads.{reply_to_read}
 use Rattle.pipe_core.specs.Flushes.{reply_to_commit}
 use Rattle.pipe_core.specs.Wakes.{wake_of}
@@ -28,3 +29,19 @@ answers_after pause resume h (call ∷ calls) = answer_to pause resume call h �
 -- the answers to calls that are made in this order from the start
 abbrev pub answers : ℕ → ℕ → List Call → List Answer
 answers pause resume calls = answers_after pause resume [] calls
+
+-- the writer's code after a call, the reader's code, and the length of the lend
+abbrev pub ended_after : Call → Option ℕ → Option ℕ
+ended_after (EndWriter code) before = Some code
+ended_after call before = before
+
+abbrev pub gone_after : Call → Option ℕ → Option ℕ
+gone_after (EndReader code) before = Some code
+gone_after call before = before
+
+abbrev pub lent_after : Call → Answer → Option ℕ → Option ℕ
+lent_after Read (Gave (read.Ready canceled ended len) wake) before = Some len
+lent_after Read answer before = None
+lent_after (Advance c e) answer before = None
+lent_after (EndReader code) answer before = None
+lent_after call answer before = before

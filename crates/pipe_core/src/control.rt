@@ -70,6 +70,11 @@ impl Control {
         ensures unchanged { OnErr result (self.new ≡ self.old) }
         ensures answers { IfOk result (λ answer. (runs : List Run) → length (bytes_of runs) ≡ n →
             Answers self.old (Commit runs) (Flushed answer.0 answer.1) self.new) }
+
+        // Whether an end has completed, and what is lent, stays with either outcome.
+        ensures ended { self.new.ended ≡ self.old.ended }
+        ensures gone { self.new.gone ≡ self.old.gone }
+        ensures lent { self.new.lent ≡ self.old.lent }
     {
         let before = self.marks;
         let Some(committed) = before.total_with(n) else {

@@ -7,7 +7,7 @@ ghost use Rattle.pipe_core.specs.Lends.{lend};
 ghost use Rattle.pipe_core.specs.Answers.{Flushed, Gave, Woke};
 ghost use Rattle.pipe_core.specs.Standing.{AreThresholds, MayAdvance};
 ghost use Rattle.pipe_core.specs.Bytes.{capacity_of, with_draft};
-ghost use Rattle.pipe_core.specs.Pipe.{HoldsFor, PipeAnswers, PipeWakes, runs_of, closing};
+ghost use Rattle.pipe_core.specs.Pipe.{HoldsFor, PipeAnswers, PipeCloses, runs_of, closing};
 ghost use Rattle.pipe_core.specs.Lending.{LendsSpare};
 
 use crate::buffer::Buffer;
@@ -101,6 +101,11 @@ impl PlainPipe {
         ensures answers { IfOk result (λ answer.
             PipeAnswers self.old (Commit (runs_of self.old.bytes.draft)) (Flushed answer.0 answer.1) self.new) }
         ensures draft { OnOk result (self.new.bytes.draft ≡ []) }
+
+        // Whether an end has completed, and what is lent, stays with either outcome.
+        ensures ended { self.new.control.ended ≡ self.old.control.ended }
+        ensures gone { self.new.control.gone ≡ self.old.control.gone }
+        ensures lent { self.new.control.lent ≡ self.old.control.lent }
     {
         let dropped = self.control.is_reader_gone();
         let answer = self.control.commit(self.buffer.draft_len() as u64)?;
@@ -148,7 +153,7 @@ impl PlainPipe {
             (IsNone self.old.control.gone × 2 ^ 62 < self.old.control.committed + length self.old.bytes.draft) }
         ensures told_total { IfErr result (λ refused. refused.total ≡ self.old.control.committed) }
         ensures unchanged { OnErr result (self.new ≡ self.old) }
-        ensures answers { IfOk result (λ wake. PipeWakes self.old (closing self.old.bytes.draft code) wake self.new) }
+        ensures answers { IfOk result (λ wake. PipeCloses self.old (closing self.old.bytes.draft code) wake self.new) }
         ensures draft { OnOk result (self.new.bytes.draft ≡ []) }
     {
         if self.buffer.draft_len() == 0 {

@@ -13,4 +13,4 @@ pub returns : goal.returns
 returns c =
     let m = c.self.inside.marks in
     let unended = rw (← c.self.view_is) at c.requires in
-    rw (← c.self.view_is) (woke m _ _ _ refl refl c.woken_since.ensures (λ h s. after_end_reader m c.args.code h unended s) (λ h. refl))
+    rw (← c.self.view_is) (woke m _ _ _ refl refl c.woken_since.ensures (λ h s. after_end_reader m c.args.code h unended s) (λ h. refl) refl refl refl)
