@@ -1,7 +1,7 @@
 -- What follows from a run.
-use Rattle.std.proofs.Common.{◌≡◌, ◌≢◌, ◌<◌, ◌≤◌, ◌+◌, ◌-◌, ◌^◌, ℕ, Bool, true, false, List, [], ◌++◌, length, Option, Some, None, refl, sym, ap, ◌∙◌, arith, inl, inr, ◌⊎◌}
+use Rattle.std.proofs.Common.{◌≡◌, ◌≤◌, ◌+◌, ℕ, Bool, true, false, List, [], ◌++◌, length, Option, Some, None, refl, sym, ap, ◌∙◌, arith, inl, inr, ◌⊎◌}
 use Rattle.std.specs.Prelude.{IfSome}
-use Rattle.std.specs.Io.KnownBytes.{Appends, Consumes, IsAtEnd}
+use Rattle.std.specs.Io.KnownBytes.{Appends, Consumes}
 use Rattle.std.proofs.lemmas.List.{append-nil, length-append}
 use Rattle.edge_core.specs.Device.{SourceState, SinkState, HasRisen, HasNotRisen}
 use Rattle.frame_model.specs.declared.job.Job.{Job}
@@ -11,7 +11,7 @@ use Rattle.frame_model.specs.declared.ending.FillEnd.TheVariants as taking
 use Rattle.frame_model.specs.Cut.{Verdict, Open, End, Rest, Bad}
 use Rattle.frame_model.specs.Translation.{translation}
 use Rattle.frame_model.specs.Ending.{is_at_end, outcome_of, status_of}
-use Rattle.relay_model.specs.Run.{IsDropped, IsRelayed, TranslatesAll, RelaysAll, HasCause}
+use Rattle.relay_model.specs.Run.{IsDropped, IsRelayed, TranslatesAll}
 
 abbrev pub BadStays : Type 0
 BadStays = (job : Job) (x z : List ℕ) (b : Bool) (place : ℕ) (kind : BadKind) → (translation job x false).verdict ≡ Bad place kind → translation job (x ++ z) b ≡ translation job x false

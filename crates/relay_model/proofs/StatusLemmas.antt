@@ -1,19 +1,15 @@
 -- What each status says of a run.
-use Rattle.std.proofs.Common.{◌≡◌, ◌≢◌, ◌<◌, ◌≤◌, ◌-◌, ◌^◌, ℕ, Bool, true, false, List, [], ◌∷◌, ◌++◌, length, Option, Some, None, refl, sym, ap, ◌∙◌, arith, inl, inr, ◌⊎◌}
-use Rattle.std.specs.Prelude.{IfSome}
+use Rattle.std.proofs.Common.{◌≡◌, ◌≢◌, ◌≤◌, ℕ, Bool, true, false, List, [], ◌++◌, Some, None, refl, arith, inl, inr, ◌⊎◌}
 use Rattle.std.specs.Io.KnownBytes.{Appends, Consumes, IsAtEnd}
-use Rattle.std.proofs.lemmas.List.{append-nil}
-use Rattle.edge_core.specs.Device.{SourceState, SinkState, HasRisen}
-use Rattle.frame_model.specs.declared.framing.Framing.{Framing}
-use Rattle.frame_model.specs.declared.framing.Framing.TheVariants.{Len4, Len2, Line}
+use Rattle.edge_core.specs.Device.{SourceState, SinkState}
 use Rattle.frame_model.specs.declared.job.Job.{Job}
-use Rattle.frame_model.specs.declared.framing.BadKind.{BadKind}
 use Rattle.frame_model.specs.declared.ending.FillEnd.{FillEnd}
 use Rattle.frame_model.specs.declared.ending.FillEnd.TheVariants as taking
-use Rattle.frame_model.specs.Cut.{Front, Whole, Refused, Partial, front, frames, Verdict, Open, End, Rest, Bad, verdict_on, cut}
-use Rattle.frame_model.specs.Translation.{verdict_at, from_unspellable, spellable, translation}
-use Rattle.frame_model.specs.Ending.{is_at_end, outcome_of, status_of}
-use Rattle.relay_model.specs.Run.{IsRelayed, RelaysAll, HasCause, IsDropped, outcome, translated}
+use Rattle.frame_model.specs.Cut.{Verdict, Open, End, Rest, Bad}
+use Rattle.frame_model.specs.Translation.{translation}
+use Rattle.frame_model.specs.Ending.{outcome_of, status_of}
+use Rattle.frame_model.proofs.EndLemmas.{not_open}
+use Rattle.relay_model.specs.Run.{IsRelayed, RelaysAll, HasCause, translated}
 use Rattle.relay_model.proofs.RunLemmas.{all_taken, gone_of, left_of}
 
 -- the input was read to its end, or the reader of the taken bytes is gone
@@ -130,32 +126,6 @@ causes job status source_before source_after sink_before sink_after relay =
 
 -- ---- status 0
 
--- at its end no input is open
-not_open_on : (f : Framing) (v : Front) (place : ℕ) (rest : List ℕ) → verdict_on f v true place rest ≡ Open → ⊥
-not_open_on f (Refused kind) place rest e = absurd cc
-not_open_on Len4 (Whole p more) place [] e = absurd cc
-not_open_on Len2 (Whole p more) place [] e = absurd cc
-not_open_on Line (Whole p more) place [] e = absurd cc
-not_open_on Len4 (Whole p more) place (b ∷ rest) e = absurd cc
-not_open_on Len2 (Whole p more) place (b ∷ rest) e = absurd cc
-not_open_on Line (Whole p more) place (b ∷ rest) e = absurd cc
-not_open_on Len4 Partial place [] e = absurd cc
-not_open_on Len2 Partial place [] e = absurd cc
-not_open_on Line Partial place [] e = absurd cc
-not_open_on Len4 Partial place (b ∷ rest) e = absurd cc
-not_open_on Len2 Partial place (b ∷ rest) e = absurd cc
-not_open_on Line Partial place (b ∷ rest) e = absurd cc
-
-not_open_at : (output : Framing) (place : ℕ) (payloads : List (List ℕ)) (v : Verdict) → (v ≡ Open → ⊥) → verdict_at output place payloads v ≡ Open → ⊥
-not_open_at output place [] v never e = never e
-not_open_at output place (p ∷ payloads) v never e = absurd cc
-
-not_open : (job : Job) (x : List ℕ) → (translation job x true).verdict ≡ Open → ⊥
-not_open job x e =
-    let whole = frames job.input job.max x in
-    let c = cut job.input job.max x true in
-    not_open_at job.output _ (from_unspellable job.output c.payloads) c.verdict (λ stays. not_open_on job.input (front job.input job.max whole.1) _ whole.1 stays) e
-
 pub whole : (job : Job) (source_before source_after : SourceState) (sink_before sink_after : SinkState) → IsRelayed job 0 source_before source_after sink_before sink_after → RelaysAll job source_before source_after sink_before sink_after
 whole job source_before source_after sink_before sink_after relay =
     (elim source_before.left as (λ o. source_before.left ≡ o → RelaysAll job source_before source_after sink_before sink_after) [
@@ -180,8 +150,7 @@ whole job source_before source_after sink_before sink_after relay =
         let none_left : left.0 ≡ [] = rw left.1 at nothing_left in
         let all : input ≡ run.taken = all_taken input run.taken relay.is_run.taken.dropped left.0 left.2 none_dropped none_left in
         let verdict : ((translation job run.taken true).verdict ≡ End) ⊎ ((translation job run.taken true).verdict ≡ Open) = rw ended at v in
-        let text : run.written ≡ (translation job run.taken true).text = rw ended at (relay.is_run.passed_on.whole f) in
-        (
+        let text : run.written ≡ (translation job run.taken true).text = rw ended at (relay.is_run.passed_on.whole f) in (
           nothing_left,
           rw all (elim verdict [ inl is ↦ is | inr stays ↦ absurd (not_open job run.taken stays) ]),
           rw (all, ← text) relay.is_run.passed_on.gained,

@@ -74,13 +74,13 @@ abbrev pub TranslatesAll : Job → SourceState → SourceState → SinkState →
 TranslatesAll job source_before source_after sink_before sink_after =
     HasNotRisen source_before.faults source_after.faults → HasNotRisen sink_before.faults sink_after.faults →
     IfSome source_before.left (λ input. length input ≤ job.limit →
-      Appends sink_before.written sink_after.written (translation job input true).text)
+    Appends sink_before.written sink_after.written (translation job input true).text)
 
 -- The source has nothing left, what it held is lawful to its end, and the sink gains the translation of it.
 abbrev pub RelaysAll : Job → SourceState → SourceState → SinkState → SinkState → Type 0
 RelaysAll job source_before source_after sink_before sink_after =
     IfSome source_before.left (λ input. IsAtEnd source_after.left × ((translation job input true).verdict ≡ End)
-      × Appends sink_before.written sink_after.written (translation job input true).text)
+    × Appends sink_before.written sink_after.written (translation job input true).text)
 
 -- Each status comes for its reason alone, and a device that failed shows in the status.
 pub record HasCause (status : ℕ) (source_before source_after : SourceState) (sink_before sink_after : SinkState) : Type 0 where

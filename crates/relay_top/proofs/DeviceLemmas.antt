@@ -1,12 +1,10 @@
 -- What devices give and take in several calls.
-use Rattle.std.proofs.Common.{◌≡◌, ℕ, List, [], ◌∷◌, ◌++◌, Option, Some, None, Result, Ok, Err, refl, sym, ap, ◌∙◌, append_assoc}
-use mathlib.Core.List.{IsPrefix}
+use Rattle.std.proofs.Common.{◌≡◌, ℕ, List, [], ◌++◌, Option, Some, None, Result, Ok, Err, refl, sym, ap, ◌∙◌, append_assoc}
 use Rattle.std.proofs.KnownBytes.{Appends-nil, Appends-trans}
 use Rattle.std.proofs.lemmas.List.{append-nil}
 use Rattle.std.specs.Prelude.{OnErr}
 use Rattle.std.specs.Io.KnownBytes.{Appends, Keeps}
-use Rattle.edge_core.specs.Device.{SourceState, SinkState, Gives, Takes, TakesFront}
-use Rattle.edge_core.proofs.DeviceLemmas.{Takes-trans}
+use Rattle.edge_core.specs.Device.{SinkState, Takes, TakesFront}
 
 pub takes_nothing : (a b : SinkState) → b ≡ a → Takes a [] b
 takes_nothing a b e = rw e (record { taken = Appends-nil a.written; unfailed = refl })

@@ -1,9 +1,9 @@
 -- How a translation goes on behind the frames that were passed over.
-use Rattle.std.proofs.Common.{◌≡◌, ◌<◌, ◌≤◌, ◌+◌, ℕ, Bool, true, false, List, [], ◌∷◌, ◌++◌, length, drop, Option, Some, None, Result, Ok, Err, refl, sym, ap, ◌∙◌, append_assoc, arith, inl, inr, ◌⊎◌, add_assoc, zero-add, subst}
+use Rattle.std.proofs.Common.{◌≡◌, ◌+◌, ℕ, Bool, true, false, List, [], ◌∷◌, ◌++◌, length, drop, Option, Some, None, Result, Ok, Err, refl, sym, ap, ◌∙◌, append_assoc, arith, inl, inr, ◌⊎◌, add_assoc, zero-add, subst}
 use Rattle.std.specs.Prelude.{IsNone, slice_range, unwrap_or, MatchOption}
-use Rattle.std.proofs.lemmas.List.{append-nil, length-append, length-drop, drop-drop, drop-append-le}
+use Rattle.std.proofs.lemmas.List.{append-nil, length-append, length-drop, drop-drop}
 use Rattle.std.proofs.Math.Seq.{drop-length}
-use Rattle.edge_core.specs.Device.{SinkState, Takes, TakesFront}
+use Rattle.edge_core.specs.Device.{SinkState, TakesFront}
 use Rattle.edge_core.proofs.DeviceLemmas.{Takes-trans}
 use Rattle.frame_model.specs.declared.framing.Framing.{Framing}
 use Rattle.frame_model.specs.declared.framing.Framing.TheVariants.{Len4, Len2, Line}
@@ -13,10 +13,9 @@ use Rattle.frame_model.specs.Spelling.{obstacle, spelling, text}
 use Rattle.frame_model.specs.Cut.{Verdict, Open, End, Rest, Bad, cut, moved, MayCome}
 use Rattle.frame_model.specs.Translation.{Translation, spellable, from_unspellable, verdict_at, translation_of, translation, behind}
 use Rattle.frame_model.proofs.FrontLemmas.{front_empty}
-use Rattle.frame_model.proofs.CutLemmas.{cut_partial}
 use Rattle.frame_grammar.specs.Answers.{BeginsWithFrame}
 use Rattle.relay_top.specs.Drain.{PassesOver}
-use Rattle.relay_top.proofs.DeviceLemmas.{takes_nothing, front_more, front_behind}
+use Rattle.relay_top.proofs.DeviceLemmas.{takes_nothing, front_behind}
 
 -- ---- one frame
 
@@ -74,7 +73,7 @@ unspellable_stops job x at_end from to n at frame e =
     let p = slice_range x from to in
     let rest = cut job.input job.max (drop n x ++ []) at_end in
     let whole : translation job (x ++ []) at_end ≡ translation_of job.input job.output (p ∷ rest.payloads) (moved n rest.verdict) =
-        ap (λ c. translation_of job.input job.output c.payloads c.verdict) (frame.goes_on [] at_end (may_stop at_end)) in
+    ap (λ c. translation_of job.input job.output c.payloads c.verdict) (frame.goes_on [] at_end (may_stop at_end)) in
     ap (λ t. translation job t at_end) (sym (append-nil x)) ∙ whole ∙ cannot_spell job.input job.output p rest.payloads (moved n rest.verdict) at e
 
 pub no_frame : (job : Job) (x : List ℕ) (at_end : Bool) (v : Verdict) → cut job.input job.max x at_end ≡ record { payloads = []; verdict = v } → translation job x at_end ≡ record { text = []; verdict = v }

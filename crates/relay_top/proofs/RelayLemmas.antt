@@ -1,11 +1,8 @@
 -- How far a relay has come, and how it ends.
-use Rattle.std.proofs.Common.{◌≡◌, ◌≢◌, ◌<◌, ◌≤◌, ◌+◌, ◌-◌, ℕ, Bool, true, false, List, [], ◌∷◌, ◌++◌, length, drop, Option, Some, None, refl, sym, ap, ◌∙◌, append_assoc, arith, inl, inr, ◌⊎◌, subst, zero-add, add-zero}
-use Rattle.std.specs.Io.KnownBytes.{Appends, Consumes, Keeps}
+use Rattle.std.proofs.Common.{◌≡◌, ◌≢◌, ◌<◌, ◌≤◌, ◌+◌, ℕ, Bool, true, false, List, [], ◌++◌, length, drop, Option, Some, None, refl, sym, ap, ◌∙◌, append_assoc, arith, inl, inr, subst, add-zero}
 use Rattle.std.proofs.KnownBytes.{Appends-trans, Consumes-nil, Consumes-trans, Consumes-kept}
-use mathlib.Core.List.{IsPrefix}
 use Rattle.std.proofs.lemmas.List.{append-nil, length-append, length-drop, drop-append-le, drop-drop}
-use Rattle.edge_core.specs.Device.{SourceState, SinkState, Gives, Fails, Takes, SinkFails, TakesFront}
-use Rattle.edge_core.proofs.DeviceLemmas.{Takes-trans}
+use Rattle.edge_core.specs.Device.{SourceState, SinkState, Gives, Takes, SinkFails, TakesFront}
 use Rattle.frame_model.specs.declared.framing.Framing.{Framing}
 use Rattle.frame_model.specs.declared.framing.Framing.TheVariants.{Len4, Len2, Line}
 use Rattle.frame_model.specs.declared.framing.BadKind.{BadKind}
@@ -15,17 +12,18 @@ use Rattle.frame_model.specs.declared.ending.FillEnd.TheVariants as taking
 use Rattle.frame_model.specs.declared.ending.Outcome.{Outcome}
 use Rattle.frame_model.specs.declared.ending.Outcome.TheVariants.{WriteFault}
 use Rattle.frame_model.specs.Spelling.{longest_frame}
-use Rattle.frame_model.specs.Cut.{Front, Whole, Refused, Partial, front, frames, Verdict, Open, End, Rest, Bad, cut, verdict_on, moved, MayCome}
-use Rattle.frame_model.specs.Translation.{from_unspellable, verdict_at, translation, behind}
+use Rattle.frame_model.specs.Cut.{Verdict, Rest, Bad, moved}
+use Rattle.frame_model.specs.Translation.{translation, behind}
 use Rattle.frame_model.specs.Ending.{is_at_end, outcome_of, status_of}
-use Rattle.relay_model.specs.Run.{Run, IsTaken, IsPassedOn, IsRun, IsRelayedTo, IsDropped, outcome}
+use Rattle.frame_model.proofs.EndLemmas.{no_end, no_rest}
+use Rattle.relay_model.specs.Run.{IsTaken, IsRelayedTo}
 use Rattle.relay_top.specs.declared.drain.Stop.{Stop}
 use Rattle.relay_top.specs.declared.drain.Stop.TheVariants as stops
 use Rattle.relay_top.specs.declared.drain.Drained.{Drained}
-use Rattle.relay_top.specs.Intake.{Intake, Adds, GivesOneMore, TakesOnce}
-use Rattle.relay_top.specs.Drain.{PassesOver, verdict_of, StopsAt, Drains}
+use Rattle.relay_top.specs.Intake.{Intake, Adds, TakesOnce}
+use Rattle.relay_top.specs.Drain.{PassesOver, verdict_of, Drains}
 use Rattle.relay_top.specs.Relay.{ending_of}
-use Rattle.relay_top.proofs.DeviceLemmas.{takes_nothing, appends_kept}
+use Rattle.relay_top.proofs.DeviceLemmas.{appends_kept}
 use Rattle.relay_top.proofs.DrainLemmas.{passes_nothing, passes_more, passed_text, fails_behind}
 
 -- What was taken so far, and of which front of it the frames were written. The rest is held.
@@ -223,38 +221,12 @@ flush_failed job ending sb s kb k k' k'' held count d t drains failed =
     let over = drained_over job at_end t.taken held kb k k' t.place d t.over t.held_is drains in
     failed_run job ending sb s kb k k'' held count t (fails_behind job t.taken at_end kb k' k'' (t.place + d.passed) over (front_of_nothing k' k'' _ failed))
 
--- before the end no input is at its end
-bad_or_open_on : (f : Framing) (v : Front) (place : ℕ) (rest : List ℕ) → (verdict_on f v false place rest ≡ Open) ⊎ ((at : ℕ) × (kind : BadKind) × (verdict_on f v false place rest ≡ Bad at kind))
-bad_or_open_on f (Refused kind) place rest = inr (place, kind, refl)
-bad_or_open_on Len4 (Whole p more) place rest = inl refl
-bad_or_open_on Len2 (Whole p more) place rest = inl refl
-bad_or_open_on Line (Whole p more) place rest = inl refl
-bad_or_open_on Len4 Partial place rest = inl refl
-bad_or_open_on Len2 Partial place rest = inl refl
-bad_or_open_on Line Partial place rest = inl refl
-
-bad_or_open_at : (output : Framing) (place : ℕ) (payloads : List (List ℕ)) (v : Verdict) → (v ≡ Open) ⊎ ((at : ℕ) × (kind : BadKind) × (v ≡ Bad at kind))
-    → (verdict_at output place payloads v ≡ Open) ⊎ ((at : ℕ) × (kind : BadKind) × (verdict_at output place payloads v ≡ Bad at kind))
-bad_or_open_at output place [] v which = which
-bad_or_open_at output place (p ∷ payloads) v which = inr (place, _, refl)
-
-bad_or_open : (job : Job) (x : List ℕ) → ((translation job x false).verdict ≡ Open) ⊎ ((at : ℕ) × (kind : BadKind) × ((translation job x false).verdict ≡ Bad at kind))
-bad_or_open job x =
-    let whole = frames job.input job.max x in
-    let c = cut job.input job.max x false in
-    bad_or_open_at job.output _ (from_unspellable job.output c.payloads) c.verdict (bad_or_open_on job.input (front job.input job.max whole.1) _ whole.1)
-
--- the verdict for which the draining stops, where more is not wanted
-stops_bad : (stop : Stop) (v : Verdict) → v ≡ verdict_of stop 0 → (v ≡ Open) ⊎ ((at : ℕ) × (kind : BadKind) × (v ≡ Bad at kind)) → stop ≢ stops.More → (kind : BadKind) × (stop ≡ stops.Bad kind)
-stops_bad stops.More v is which more = absurd (more refl)
-stops_bad (stops.Bad kind) v is which more = (kind, refl)
-stops_bad stops.End v is (inl open_is) more = absurd cc
-stops_bad stops.End v is (inr bad) more = let no = bad.2 in absurd cc
-stops_bad stops.Rest v is (inl open_is) more = absurd cc
-stops_bad stops.Rest v is (inr bad) more = let no = bad.2 in absurd cc
-
+-- before the end, an input that is not open is bad
 stopped_bad : (job : Job) (x : List ℕ) (stop : Stop) → translation job x false ≡ record { text = []; verdict = verdict_of stop 0 } → stop ≢ stops.More → (kind : BadKind) × (stop ≡ stops.Bad kind)
-stopped_bad job x stop told more = stops_bad stop (translation job x false).verdict (ap (λ t. t.verdict) told) (bad_or_open job x) more
+stopped_bad job x stops.More told more = absurd (more refl)
+stopped_bad job x (stops.Bad kind) told more = (kind, refl)
+stopped_bad job x stops.End told more = absurd (no_end job x (ap (λ t. t.verdict) told))
+stopped_bad job x stops.Rest told more = absurd (no_rest job x 0 (ap (λ t. t.verdict) told))
 
 verdict_moves : (stop : Stop) (n : ℕ) → moved n (verdict_of stop 0) ≡ verdict_of stop n
 verdict_moves stops.More n = refl
@@ -282,7 +254,7 @@ finished job ending sb s kb k k' k'' held count d place end t drains flushed pla
     let rest : drop n t.taken ≡ drop d.passed held = sym (drop-drop d.passed t.place t.taken) ∙ ap (λ (x : List ℕ). drop d.passed x) (sym t.held_is) in
     let said : translation job (drop n t.taken) at_end ≡ record { text = []; verdict = verdict_of d.stop 0 } = ap (λ (x : List ℕ). translation job x at_end) rest ∙ drains.stopped.told in
     let whole : translation job t.taken at_end ≡ behind over.written n (record { text = []; verdict = verdict_of d.stop 0 }) =
-        passed_text job t.taken at_end kb k' n over ∙ ap (λ x. behind over.written n x) said in
+    passed_text job t.taken at_end kb k' n over ∙ ap (λ x. behind over.written n x) said in
     let text : (translation job t.taken at_end).text ≡ over.written = ap (λ x. x.text) whole ∙ append-nil over.written in
     let verdict : (translation job t.taken at_end).verdict ≡ verdict_of d.stop n = ap (λ x. x.verdict) whole ∙ verdict_moves d.stop n in
     let at_place : place ≡ t.place = omega (arith, placed, t.counted, t.over.within, ap length t.held_is, length-drop t.place t.taken) in

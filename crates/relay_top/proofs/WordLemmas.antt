@@ -1,5 +1,5 @@
 -- More than three words are no command.
-use Rattle.std.proofs.Common.{◌≡◌, ℕ, List, [], ◌∷◌, length, false, None, refl}
+use Rattle.std.proofs.Common.{◌≡◌, List, [], ◌∷◌, length, false, None, refl}
 use Rattle.std.specs.Prelude.{◌==◌, String}
 use Rattle.std.specs.declared.alloc.Global.{Global}
 use Rattle.relay_top.specs.Words.{job_of, texts}

@@ -38,7 +38,12 @@ pub struct Drained {
 }
 
 /// Writes the frames of `bytes` to the sink, as the job's output spells them. `at_end` says that nothing comes behind them.
-pub fn drain<K: Sink>(job: &Job, bytes: &[u8], at_end: bool, sink: &mut K) -> Result<Drained, Failed>
+pub fn drain<K: Sink>(
+    job: &Job,
+    bytes: &[u8],
+    at_end: bool,
+    sink: &mut K,
+) -> Result<Drained, Failed>
     ensures drained { IfOk result (λ drained. Drains job.now bytes.now at_end (K.state sink.old) drained (K.state sink.new)) }
     ensures failed { OnErr result (TakesFront (K.state sink.old) (translation job.now bytes.now at_end).text (K.state sink.new)) }
 {

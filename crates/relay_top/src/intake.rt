@@ -46,7 +46,11 @@ impl Intake {
         ensures { TakesOnce limit self.old (S.state source.old) result self.new (S.state source.new) }
     {
         let held = self.held;
-        match read_within(source, &mut self.buffer.as_mut_slice()[held..], limit - self.taken) {
+        match read_within(
+            source,
+            &mut self.buffer.as_mut_slice()[held..],
+            limit - self.taken,
+        ) {
             Ok(read) => {
                 self.held += read;
                 self.taken += read as u64;

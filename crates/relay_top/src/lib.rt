@@ -8,3 +8,6 @@ mod relay;
 mod words;
 
 pub use local::relay_local;
+
+#[cfg(test)]
+mod tests;

@@ -34,7 +34,12 @@ const BUFFER_LEN: usize = 131_072;
 /// | 5 | A write or a flush failed. |
 /// | 6 | There is no memory. Nothing is read or written. |
 /// | 7 | The source has more than 2^40 bytes. The whole frames of the first 2^40 are written. |
-pub fn relay_local<S: Source, K: Sink>(alloc: Global, words: &[String], source: &mut S, sink: &mut K) -> u8
+pub fn relay_local<S: Source, K: Sink>(
+    alloc: Global,
+    words: &[String],
+    source: &mut S,
+    sink: &mut K,
+) -> u8
     ensures usage { (result ≡ 1) ↔ IsNone (job_of (texts words.now)) }
 
     // Without a command, and without memory, nothing is read or written.

@@ -14,7 +14,12 @@ use frame_grammar::Job;
 use frame_model::{FillEnd, Outcome};
 
 /// Relays a source to a sink, and says how that ended. `intake` is empty at first.
-pub fn relay<S: Source, K: Sink>(job: &Job, source: &mut S, sink: &mut K, intake: &mut Intake) -> Outcome
+pub fn relay<S: Source, K: Sink>(
+    job: &Job,
+    source: &mut S,
+    sink: &mut K,
+    intake: &mut Intake,
+) -> Outcome
     requires empty { (intake.old.held ≡ []) × (intake.old.taken ≡ 0) }
     requires room { longest_frame job.now.input job.now.max ≤ intake.old.size }
     ensures { IsRelayedTo job.now result (S.state source.old) (S.state source.new) (K.state sink.old) (K.state sink.new) }

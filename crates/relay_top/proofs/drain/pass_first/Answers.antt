@@ -11,23 +11,27 @@ returns-in_err-write_frame-in-Ok-clause-failed g c =
     let spelt = none_of _ _ _ (λ at. Unspellable at) c.in-Ok.ensures in
     let text = frame_text c.args.job.now c.args.bytes.now c.args.at_end c.in-Frame.from c.in-Frame.to c.in-Frame.end c.in-Frame.ensures.told spelt in
     on_err c.from_residual.result _
-      (subst (λ (t : List ℕ). TakesFront (g.K.Sink.state c.args.sink.now) t (g.K.Sink.state c.write_frame.new.sink)) (sym text) (front_more _ _ _ _ c.in_err-write_frame-in-Ok.ensures.failed))
+    (subst (λ (t : List ℕ). TakesFront (g.K.Sink.state c.args.sink.now) t (g.K.Sink.state c.write_frame.new.sink)) (sym text) (front_more _ _ _ _ c.in_err-write_frame-in-Ok.ensures.failed))
 
 pub returns-in-Ok-clause-passed : goal.returns-in-Ok-clause-passed
 returns-in-Ok-clause-passed g c =
     let spelt = none_of _ _ _ (λ at. Unspellable at) c.in-Ok.ensures in
-    let frame = c.in-Frame.ensures.told in
-    (frame.some, record {
-      within = frame.ordered.2;
-      written = _;
-      taken = c.in_ok-write_frame-in-Ok.ensures.written;
-      goes_on = frame_goes_on c.args.job.now c.args.bytes.now c.args.at_end c.in-Frame.from c.in-Frame.to c.in-Frame.end frame spelt;
-    })
+    let frame = c.in-Frame.ensures.told in (
+      frame.some,
+      record {
+        within = frame.ordered.2;
+        written = _;
+        taken = c.in_ok-write_frame-in-Ok.ensures.written;
+        goes_on = frame_goes_on c.args.job.now c.args.bytes.now c.args.at_end c.in-Frame.from c.in-Frame.to c.in-Frame.end frame spelt;
+      },
+    )
 
 pub returns-in-Err-clause-passed : goal.returns-in-Err-clause-passed
 returns-in-Err-clause-passed g c =
-    let why = some_of _ _ _ (λ at. Unspellable at) c.in-Err.ensures in
-    (refl, record {
-      told = rw why.2 (unspellable_stops c.args.job.now c.args.bytes.now c.args.at_end c.in-Frame.from c.in-Frame.to c.in-Frame.end why.0 c.in-Frame.ensures.told why.1);
-      short = λ no. absurd cc;
-    })
+    let why = some_of _ _ _ (λ at. Unspellable at) c.in-Err.ensures in (
+      refl,
+      record {
+        told = rw why.2 (unspellable_stops c.args.job.now c.args.bytes.now c.args.at_end c.in-Frame.from c.in-Frame.to c.in-Frame.end why.0 c.in-Frame.ensures.told why.1);
+        short = λ no. absurd cc;
+      },
+    )

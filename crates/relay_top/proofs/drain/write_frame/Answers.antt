@@ -1,6 +1,5 @@
 -- A frame is its head, its payload and its tail.
-use Rattle.std.specs.Prelude.{length}
-use Rattle.frame_model.specs.Spelling.{head_of, tail_of}
+use Rattle.frame_model.specs.Spelling.{tail_of}
 use Rattle.edge_core.proofs.DeviceLemmas.{Takes-trans}
 use Rattle.relay_top.proofs.DeviceLemmas.{front_more, front_behind, on_err, on_err_from}
 use Rattle.relay_top.proofs.drain.write_frame.Goals as goal

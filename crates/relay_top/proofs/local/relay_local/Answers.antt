@@ -1,5 +1,5 @@
 -- The laws of a relay, at the run that was made.
-use Rattle.std.proofs.Common.{ℕ, ap, ◌∙◌}
+use Rattle.std.proofs.Common.{ap, ◌∙◌}
 use Rattle.frame_model.specs.declared.ending.Outcome.{Outcome}
 use Rattle.frame_model.specs.Ending.{status_of}
 use Rattle.relay_top.proofs.local.relay_local.Goals as goal
