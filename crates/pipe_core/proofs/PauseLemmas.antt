@@ -1,10 +1,10 @@
 -- The test of a pause and what a pause is.
-use Rattle.std.proofs.Common.{◌≡◌, ◌<◌, ◌≤◌, ℕ, true, ◌&&◌, ◌||◌, nat_lt, nat_le, List, [], ◌∷◌, ◌++◌, refl, ap, subst, ◌∙◌, inl, inr}
+use Rattle.std.proofs.Common.{◌≡◌, ◌≤◌, ℕ, true, ◌&&◌, ◌||◌, nat_lt, nat_le, List, [], ◌∷◌, ◌++◌, refl, ap, subst, ◌∙◌, inl, inr}
 use Rattle.std.specs.Prelude.{IsTrue, is_none}
 use Rattle.std.proofs.lemmas.Bool.{ltb-true, leb-true, lt-ltb, le-leb, and_parts, and_from, or_cases, or_left, or_right, not-true, not_from_false}
 use Rattle.pipe_core.specs.History.{Run, Call, Commit, EndWriter, Read, Advance, EndReader, CancelRead, CancelFlush, reader_end}
 use Rattle.pipe_core.specs.Progress.{unexamined}
-use Rattle.pipe_core.specs.Pauses.{Paused, IsPaused, begins_pause, pause_stands, is_paused}
+use Rattle.pipe_core.specs.Pauses.{Begins, Paused, IsPaused, begins_pause, pause_stands, is_paused}
 
 -- a call that begins a pause is a commit that reaches the threshold
 begins : (pause resume : ℕ) (call : Call) (h : List Call) → begins_pause pause call h ≡ true → resume ≤ unexamined (call ∷ h) → Paused pause resume (call ∷ h)
@@ -15,8 +15,7 @@ begins pause resume (Commit runs) h t due =
       runs = runs;
       since = [];
       parts = refl;
-      below = ltb-true _ _ parts.0;
-      reached = leb-true _ _ parts.1;
+      begun = (ltb-true _ _ parts.0, leb-true _ _ parts.1);
       lasting = λ later sooner e. first_only later sooner e due;
     }
   where
@@ -38,8 +37,7 @@ goes_on pause resume call h p due = record {
   runs = p.runs;
   since = call ∷ p.since;
   parts = ap (λ (g : List Call). call ∷ g) p.parts;
-  below = p.below;
-  reached = p.reached;
+  begun = p.begun;
   lasting = λ later sooner e. each later sooner e;
 }
   where
@@ -60,15 +58,15 @@ paused_by pause resume (call ∷ h) t =
       | inr stood ↦ goes_on pause resume call h (paused_by pause resume h stood) due
     ]
 
-pub stands : (pause resume : ℕ) (before : List Call) (runs : List Run) (since : List Call) → unexamined before < pause → pause ≤ unexamined (Commit runs ∷ before)
+pub stands : (pause resume : ℕ) (before : List Call) (runs : List Run) (since : List Call) → Begins pause runs before
     → ((later sooner : List Call) → since ≡ later ++ sooner → resume ≤ unexamined (sooner ++ Commit runs ∷ before)) → pause_stands pause resume (since ++ Commit runs ∷ before) ≡ true
-stands pause resume before runs [] below reached lasting =
-    and_from _ _ (le-leb _ _ (lasting [] [] refl)) (or_left _ _ (and_from _ _ (lt-ltb _ _ below) (le-leb _ _ reached)))
-stands pause resume before runs (call ∷ since) below reached lasting =
-    and_from _ _ (le-leb _ _ (lasting [] (call ∷ since) refl)) (or_right _ _ (stands pause resume before runs since below reached (λ later sooner e. lasting (call ∷ later) sooner (ap (λ (g : List Call). call ∷ g) e))))
+stands pause resume before runs [] begun lasting =
+    and_from _ _ (le-leb _ _ (lasting [] [] refl)) (or_left _ _ (and_from _ _ (lt-ltb _ _ begun.0) (le-leb _ _ begun.1)))
+stands pause resume before runs (call ∷ since) begun lasting =
+    and_from _ _ (le-leb _ _ (lasting [] (call ∷ since) refl)) (or_right _ _ (stands pause resume before runs since begun (λ later sooner e. lasting (call ∷ later) sooner (ap (λ (g : List Call). call ∷ g) e))))
 
 pub paused_since : (pause resume : ℕ) (h : List Call) → Paused pause resume h → pause_stands pause resume h ≡ true
-paused_since pause resume h p = rw p.parts (stands pause resume p.before p.runs p.since p.below p.reached p.lasting)
+paused_since pause resume h p = rw p.parts (stands pause resume p.before p.runs p.since p.begun p.lasting)
 
 pub pause_in_words : (pause resume : ℕ) (h : List Call) → IsTrue (is_paused pause resume h) → IsPaused pause resume h
 pause_in_words pause resume h t =
