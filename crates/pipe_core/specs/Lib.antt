@@ -1,0 +1,15 @@
+pub mod History
+pub mod Progress
+pub mod Reads
+pub mod Pauses
+pub mod Flushes
+pub mod Wakes
+pub mod Lends
+pub mod Legal
+pub mod Answers
+pub mod Cases
+pub mod Standing
+pub mod Control
+pub mod Bytes
+pub mod Lending
+pub mod Pipe

@@ -1,0 +1,192 @@
+//! A pipe over one buffer, for one thread.
+
+ghost use Rattle.std.specs.Prelude.{◌≡◌, ◌+◌, ◌^◌, ◌<◌, ◌≤◌, ◌↔◌, ℕ, List, [], length, IsNone, IsSome, Some, IsErr, IfErr, IfOk, OnErr, OnOk};
+ghost use Rattle.std.specs.Borrow.{sem};
+ghost use Rattle.pipe_core.specs.History.{Call, Commit, Read, Advance, EndReader, CancelRead, CancelFlush};
+ghost use Rattle.pipe_core.specs.Lends.{lend};
+ghost use Rattle.pipe_core.specs.Answers.{Flushed, Gave, Woke};
+ghost use Rattle.pipe_core.specs.Standing.{AreThresholds, MayAdvance};
+ghost use Rattle.pipe_core.specs.Bytes.{capacity_of, with_draft};
+ghost use Rattle.pipe_core.specs.Pipe.{HoldsFor, PipeAnswers, PipeCloses, runs_of, closing};
+ghost use Rattle.pipe_core.specs.Lending.{LendsSpare};
+
+use crate::buffer::Buffer;
+use crate::control::Control;
+use crate::reply::{FlushReply, ReadReply, TooMuch, Wake};
+use std::alloc::{AllocError, Global};
+use std::marker::Model;
+
+/// A pipe over one buffer, for one thread: `System.IO.Pipelines.Pipe` with both ends in one value.
+///
+/// The writer writes into `spare_mut`, tells by `advance_draft` how much, and makes it visible by `flush`. The reader
+/// reads, looks at `lent`, and says by `advance` what it consumed and how far it looked. No call waits or takes memory
+/// but `make`, and none but `advance` and `end_reader` moves a byte: each moves no byte that was moved before.
+#[derive(Debug, Drop)]
+pub struct PlainPipe {
+    control: Control,
+    buffer: Buffer,
+}
+
+// Clauses see the marks and the parts of the buffer. A pipe always stands for some history of calls.
+impl Model for PlainPipe {
+    ghost use Rattle.std.specs.Prelude.{List};
+    ghost use Rattle.pipe_core.specs.History.{Call};
+    ghost use Rattle.pipe_core.specs.Pipe.{Pipe, HoldsFor};
+
+    ghost Value = { Pipe };
+
+    ghost view = { λ p. record { control = p.control; bytes = p.buffer } };
+
+    ghost invariant = { λ p. (h : List Call) × HoldsFor (record { control = p.control; bytes = p.buffer }) h };
+}
+
+impl PlainPipe {
+    /// An empty pipe for at most `capacity` bytes, draft included, with the thresholds of `Control::new`. It takes room
+    /// for twice as many, once and for all; want of memory is the one refusal.
+    pub fn make(
+        alloc: Global,
+        capacity: usize,
+        pause: u64,
+        resume: u64,
+    ) -> Result<PlainPipe, AllocError>
+        requires { AreThresholds pause resume }
+        ensures pause { IfOk result (λ pipe. pipe.control.pause ≡ pause) }
+        ensures resume { IfOk result (λ pipe. pipe.control.resume ≡ resume) }
+        ensures stands { IfOk result (λ pipe. HoldsFor pipe []) }
+        ensures draft { IfOk result (λ pipe. pipe.bytes.draft ≡ []) }
+        ensures free { IfOk result (λ pipe. length pipe.bytes.free ≡ capacity) }
+    {
+        let buffer = Buffer::make(alloc, capacity)?;
+        Ok(PlainPipe {
+            control: Control::new(pause, resume),
+            buffer,
+        })
+    }
+
+    /// How many bytes the pipe has room for: those that are committed and not consumed (none once the reader has
+    /// completed), the draft, and the free part.
+    pub fn capacity(&self) -> usize
+        ensures capacity { result ≡ length self.now.bytes.held + length self.now.bytes.draft + length self.now.bytes.free }
+        ensures history { (h : List Call) × HoldsFor self.now h }
+    {
+        self.buffer.capacity()
+    }
+
+    /// The free part behind the draft, as `PipeWriter.GetMemory` gives it, all of it in one piece. Its length is always the
+    /// capacity less the draft, and less what is committed and not consumed. What was written to it stays there until
+    /// the next `advance`, `end_reader`, `flush` or `end_writer`.
+    pub fn spare_mut(&mut self) -> &mut [u8]
+        ensures* lends { sem 𝓛 (LendsSpare self.entry result) }
+        ensures value { result.now ≡ self.old.bytes.free }
+    {
+        self.buffer.free_mut()
+    }
+
+    /// Takes the first `n` bytes of the free part to the end of the draft, as `PipeWriter.Advance` does.
+    pub fn advance_draft(&mut self, n: usize)
+        requires { n ≤ length self.old.bytes.free }
+        ensures { self.new ≡ record self.old { bytes = with_draft self.old.bytes n } }
+    {
+        self.buffer.extend_draft(n);
+    }
+
+    /// Commits the draft, as `PipeWriter.FlushAsync` does, and answers as `Control::commit` does. Once the reader has
+    /// completed the draft is dropped. After TooMuch the pipe is as it was, draft included.
+    pub fn flush(&mut self) -> Result<(FlushReply, Wake), TooMuch>
+        requires { IsNone self.old.control.ended }
+        ensures too_much { IsErr result ↔
+            (IsNone self.old.control.gone × 2 ^ 62 < self.old.control.committed + length self.old.bytes.draft) }
+        ensures told_total { IfErr result (λ refused. refused.total ≡ self.old.control.committed) }
+        ensures unchanged { OnErr result (self.new ≡ self.old) }
+        ensures answers { IfOk result (λ answer.
+            PipeAnswers self.old (Commit (runs_of self.old.bytes.draft)) (Flushed answer.0 answer.1) self.new) }
+        ensures draft { OnOk result (self.new.bytes.draft ≡ []) }
+
+        // Whether an end has completed, and what is lent, stays with either outcome.
+        ensures ended { self.new.control.ended ≡ self.old.control.ended }
+        ensures gone { self.new.control.gone ≡ self.old.control.gone }
+        ensures lent { self.new.control.lent ≡ self.old.control.lent }
+    {
+        let dropped = self.control.is_reader_gone();
+        let answer = self.control.commit(self.buffer.draft_len() as u64)?;
+        self.buffer.settle_draft(dropped);
+        Ok(answer)
+    }
+
+    /// Lends all that is committed and not consumed, as `Control::read` answers. The bytes stay where they are.
+    pub fn read(&mut self) -> (ReadReply, Wake)
+        requires attended { IsNone self.old.control.gone }
+        requires no_lend { IsNone self.old.control.lent }
+        ensures answers { PipeAnswers self.old Read (Gave result.0 result.1) self.new }
+        ensures bytes { self.new.bytes ≡ self.old.bytes }
+    {
+        self.control.read()
+    }
+
+    /// The bytes that the last read lent, in place: `ReadResult.Buffer`. What was committed since is not among them.
+    pub fn lent(&self) -> &[u8]
+        requires { IsSome self.now.control.lent }
+        ensures bytes { (h : List Call) → HoldsFor self.now h → lend h ≡ Some result.now }
+        ensures len { self.now.control.lent ≡ Some (length result.now) }
+    {
+        let len = self.control.lent_len() as usize;
+        &self.buffer.held()[..len]
+    }
+
+    /// Gives up the first `c` of the lent bytes, tells that the first `e` of them were examined, and ends the lend, as
+    /// `PipeReader.AdvanceTo` does. The draft stays; what the free part holds does not.
+    pub fn advance(&mut self, c: u64, e: u64) -> Wake
+        requires { MayAdvance self.old.control.lent c e }
+        ensures answers { PipeAnswers self.old (Advance c e) (Woke result) self.new }
+        ensures draft { self.new.bytes.draft ≡ self.old.bytes.draft }
+    {
+        let wake = self.control.advance(c, e);
+        self.buffer.release(c as usize);
+        wake
+    }
+
+    /// Commits the draft, if there is one, and completes the writer with a code, as `PipeWriter.Complete` does. After
+    /// TooMuch, which comes as with `flush`, the pipe is as it was: neither committed nor completed.
+    pub fn end_writer(&mut self, code: u32) -> Result<Wake, TooMuch>
+        requires { IsNone self.old.control.ended }
+        ensures too_much { IsErr result ↔
+            (IsNone self.old.control.gone × 2 ^ 62 < self.old.control.committed + length self.old.bytes.draft) }
+        ensures told_total { IfErr result (λ refused. refused.total ≡ self.old.control.committed) }
+        ensures unchanged { OnErr result (self.new ≡ self.old) }
+        ensures answers { IfOk result (λ wake. PipeCloses self.old (closing self.old.bytes.draft code) wake self.new) }
+        ensures draft { OnOk result (self.new.bytes.draft ≡ []) }
+    {
+        if self.buffer.draft_len() == 0 {
+            return Ok(self.control.end_writer(code));
+        }
+        let (_, first) = self.flush()?;
+        let second = self.control.end_writer(code);
+        Ok(second.or(first))
+    }
+
+    /// Completes the reader with a code, as `PipeReader.Complete` does. A lend ends, and what was committed is given up.
+    pub fn end_reader(&mut self, code: u32) -> Wake
+        requires { IsNone self.old.control.gone }
+        ensures answers { PipeAnswers self.old (EndReader code) (Woke result) self.new }
+        ensures draft { self.new.bytes.draft ≡ self.old.bytes.draft }
+    {
+        self.buffer.release_all();
+        self.control.end_reader(code)
+    }
+
+    /// Ends the pending read or the next one, as `Control::cancel_read` does. Bytes, draft and lend stay.
+    pub fn cancel_read(&mut self) -> Wake
+        ensures answers { PipeAnswers self.old CancelRead (Woke result) self.new }
+        ensures bytes { self.new.bytes ≡ self.old.bytes }
+    {
+        self.control.cancel_read()
+    }
+
+    /// Ends the pending flush or the next one, as `Control::cancel_flush` does. Bytes, draft and pause stay.
+    pub fn cancel_flush(&mut self) -> Wake
+        ensures answers { PipeAnswers self.old CancelFlush (Woke result) self.new }
+        ensures bytes { self.new.bytes ≡ self.old.bytes }
+    {
+        self.control.cancel_flush()
+    }
+}
