@@ -1,0 +1,16 @@
+pub mod Knowing
+pub mod Prefixes
+pub mod NumberedLemmas
+pub mod Asks
+pub mod Parts
+pub mod Pieces
+pub mod Steps
+pub mod Leaves
+pub mod Places
+pub mod Fields
+pub mod Values
+pub mod Landing
+pub mod LandFields
+pub mod Lodging
+pub mod Opening
+pub mod Crosses
