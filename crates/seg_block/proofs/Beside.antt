@@ -1,14 +1,13 @@
 -- The two ends of a parting in one hand: what the front fetched is a front part of what the tail published. Assumes `Logic`.
-use Rattle.std.proofs.Common.{◌≡◌, ℕ, Bool, true, false, List, [], ◌∷◌, ◌++◌, sym, refl, ap, ◌∙◌, inl}
+use Rattle.std.proofs.Common.{◌≡◌, ℕ, false, List, [], ◌∷◌, ◌++◌, sym, ap, ◌∙◌, inl}
 use mathlib.Core.List.{IsPrefix}
 use seplogic.Ra.Ura.{Ura}
-use base.Stored.{Gv}
 use base.Logic.{SProp, ent, sep, wand, guard, upd, upd_i}
-use base.Fml.{Fml, finv, fobs, fauth}
+use base.Fml.{Fml, fobs, fauth}
 use types.Logic.{Logic, sem}
-use types.Kit.{‵, raw, ◌⊛◌, some, given, later, ◌$◌, ◌∵◌, !, qed, by, move, keep, drop, split, split3, fsplit, fjoin, pick, learn, check, frame, assume, suffices, use1, use2, use3, updating, await, now, done}
+use types.Kit.{‵, raw, ◌⊛◌, some, given, later, ◌$◌, ◌∵◌, !, qed, move, drop, split, split3, fsplit, fjoin, pick, learn, check, frame, assume, suffices, use1, use2, use3, updating, await, now, done}
 use denote.RawPtr.{Ptr}
-use Rattle.seg_block.specs.Rule.{Names, State, published, view, memory, Inner, common, gate_owns}
+use Rattle.seg_block.specs.Rule.{Names, State, view, memory, Inner, common, gate_owns}
 use Rattle.seg_block.proofs.Parts.{tail_at, front_at, common_twice, TailSees, tail_opens, closes, view_same}
 
 module _ {M : Type 1} {𝓤 : Ura M} (𝓛 : Logic 𝓤) (base : Ptr) (z : Names) (log seen : List ℕ) where
