@@ -14,3 +14,4 @@ pub mod LandFields
 pub mod Lodging
 pub mod Opening
 pub mod Crosses
+pub mod Beside

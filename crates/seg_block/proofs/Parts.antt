@@ -23,7 +23,7 @@ live_is true false F e = refl
 live_is true true F (inl e) = absurd (true≢false e)
 live_is true true F (inr e) = absurd (true≢false e)
 
-view_same : (xs ys : List ℕ) (a b : Bool) → view xs a ≡ view ys b → (xs ≡ ys) × (a ≡ b)
+pub view_same : (xs ys : List ℕ) (a b : Bool) → view xs a ≡ view ys b → (xs ≡ ys) × (a ≡ b)
 view_same xs ys a b e = let same = (coded× (coded_list coded_ℕ) coded_bool).inj (xs, a) (ys, b) e in ((λ i. (same i).0), λ i. (same i).1)
 
 module _ {M : Type 1} {𝓤 : Ura M} (𝓛 : Logic 𝓤) (base : Ptr) (z : Names) where

@@ -32,3 +32,7 @@ cons_not_prefix xs ys a b p =
     first : List ℕ → ℕ
     first [] = 0
     first (x ∷ xs) = x
+
+-- a front part of a prefix is one too
+pub front_of_prefix : (xs ys : List ℕ) (m : ℕ) → IsPrefix xs ys → IsPrefix (take m xs) ys
+front_of_prefix xs ys m p = prefix_trans (take m xs) xs ys (drop m xs, take-append-drop m xs) p

@@ -18,7 +18,7 @@ use std_alloc::vec::Lodged;
 
 /// The end that reads what was published, in place.
 pub struct SegFront {
-    gate: Gate,
+    pub(crate) gate: Gate,
     // All that was fetched, of which the first `shown` bytes are seen.
     kept: Vec<u8, Lodged>,
     shown: usize,

@@ -91,6 +91,14 @@ impl Gate {
         (Home { base }, Run {})
     }
 
+    // Where the two ends are in one hand, the front has fetched a front part of what the tail published. It does nothing
+    // at run time.
+    pub(crate) fn agree(&mut self, other: &mut Gate)
+        requires { (self.old.role ≡ tail) × (other.old.role ≡ front) × SameGate self.old other.old }
+        ensures { (self.new ≡ self.old) × (other.new ≡ other.old)
+            × IsPrefix other.old.log self.old.log }
+    {}
+
     // A `Vec` over the run that begins with byte `from`.
     pub(crate) fn house(&mut self, from: usize, len: usize, run: Run) -> Vec<u8, Lodged>
         requires { (run.ptr ≡ place self.old.base from) × (length run.items ≡ len)

@@ -3,11 +3,13 @@
 ghost use Rattle.std.specs.Prelude.{◌≡◌, ℕ, ◌+◌, ◌-◌, ◌≤◌, [], ◌∷◌, ◌++◌, length, take, drop};
 ghost use Rattle.std.specs.Vec.{vec_len, vec_ptr};
 ghost use Rattle.std.specs.Borrow.{sem};
+ghost use mathlib.Core.List.{IsPrefix};
 ghost use Rattle.seg_block.specs.Memory.{IsBlockSize, place};
 ghost use Rattle.seg_block.specs.Rule.{tail};
 ghost use Rattle.seg_block.specs.Gates.{IsKnownOf};
 
 use crate::block::Block;
+use crate::front::SegFront;
 use crate::gate::Gate;
 use crate::known::Known;
 use crate::run::{Run, vacate};
@@ -73,7 +75,7 @@ impl Drop for SegTail {
 }
 
 impl SegTail {
-    ghost use Rattle.seg_block.specs.Words.{id_of, size_of, identity_of, tail_size, tail_identity, tail_id, published, draft, spare, marked, tail_part, mark_part, note_part, SameTail, LendsSpare, Ends};
+    ghost use Rattle.seg_block.specs.Words.{id_of, size_of, identity_of, tail_size, tail_identity, tail_id, published, draft, spare, marked, tail_part, mark_part, note_part, SameTail, LendsSpare, Ends, seen, front_part};
 
     pub(crate) fn start(
         mut gate: Gate,
@@ -178,6 +180,16 @@ impl SegTail {
             alloc,
         };
         (tail, Mark { known, len })
+    }
+
+    /// What a front of this segment has seen is a front part of what was published. It does nothing at run time.
+    pub fn covers(&mut self, front: &mut SegFront)
+        requires { front_part front.old ≡ tail_part self.old }
+        ensures tail { self.new ≡ self.old }
+        ensures front { front.new ≡ front.old }
+        ensures seen { IsPrefix (seen front.old) (published self.old) }
+    {
+        self.gate.agree(&mut front.gate);
     }
 
     /// Ends the tail. A draft is given up.

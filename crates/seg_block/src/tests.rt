@@ -38,6 +38,7 @@ fn a_front_sees_what_is_committed_and_gives_the_block_with_the_note(
     assert_eq!(rt; front.seen(), b"abc".as_slice());
     front.learn(&mark);
     assert_eq!(rt; front.seen(), b"abcd".as_slice());
+    tail.covers(&mut front);
     match tail.finish() {
         TailEnd::Last(_) => assert!(rt; false),
         TailEnd::Note(note) => {
