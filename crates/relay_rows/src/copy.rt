@@ -159,8 +159,8 @@ fn a_fault_of_a_device_ends_the_relay(rt: HostRuntime) -> Result<(), Fail> {
     Ok(())
 }
 
-/// A frame with a head of 4 bytes and a payload of so many times `a`.
-fn long_frame(alloc: Global, head: [u8; 4], len: usize) -> Result<Vec<u8>, AllocError> {
+/// A frame with this head and a payload of so many times `a`.
+fn long_frame(alloc: Global, head: &[u8], len: usize) -> Result<Vec<u8>, AllocError> {
     let mut frame = vec![in alloc; b'a'; len]?;
     for byte in head.iter().rev() {
         frame.insert(0, *byte)?;
@@ -171,7 +171,7 @@ fn long_frame(alloc: Global, head: [u8; 4], len: usize) -> Result<Vec<u8>, Alloc
 #[test]
 fn the_greatest_payloads_pass(rt: HostRuntime) -> Result<(), Fail> {
     let alloc = rt.alloc();
-    let input = long_frame(alloc, [0, 1, 0, 0], 65_536)?;
+    let input = long_frame(alloc, &[0, 1, 0, 0], 65_536)?;
     let mut line = vec![in alloc; b'a'; 65_536]?;
     line.push(10)?;
     assert!(rt;
@@ -193,11 +193,12 @@ fn the_greatest_payloads_pass(rt: HostRuntime) -> Result<(), Fail> {
             )
         )?
     );
-    let input = long_frame(alloc, [0, 0, 255, 255], 65_535)?;
+    let input = long_frame(alloc, &[0, 0, 255, 255], 65_535)?;
+    let output = long_frame(alloc, &[255, 255], 65_535)?;
     assert!(rt;
         holds(
             alloc,
-            &plain(&len4_len2, input.as_slice(), &input.as_slice()[2..], 0, b"")
+            &plain(&len4_len2, input.as_slice(), output.as_slice(), 0, b"")
         )?
     );
     Ok(())
