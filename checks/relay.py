@@ -174,14 +174,25 @@ def reader_gone():
     check("a reader that is gone", end(program), (5, b"write fault after 0\n"))
 
 
+def read_soon(pipe, size):
+    """So many bytes of a pipe, or what came until no more did in time."""
+    data = b""
+    while len(data) < size and select.select([pipe], [], [], SECONDS)[0]:
+        piece = os.read(pipe.fileno(), size - len(data))
+        if not piece:
+            break
+        data += piece
+    return data
+
+
 def passed_on_at_once():
     """A whole frame that has come is written before more input is waited for."""
     program = start(COPY, stdin=subprocess.PIPE, stdout=subprocess.PIPE)
     for payload in [b"first", b"second"]:
         program.stdin.write(model.spell("len4", payload))
         program.stdin.flush()
-        ready, _, _ = select.select([program.stdout], [], [], SECONDS)
-        check("a frame passed on at once", os.read(program.stdout.fileno(), 100) if ready else None, payload + b"\n")
+        line = model.spell("line", payload)
+        check("a frame passed on at once", read_soon(program.stdout, len(line)), line)
     program.stdin.close()
     check("its end", end(program), (0, b""))
     program.stdout.close()
