@@ -207,12 +207,16 @@ fn the_greatest_payloads_pass(rt: HostRuntime) -> Result<(), Fail> {
 #[test]
 fn other_words_are_told(rt: HostRuntime) -> Result<(), Fail> {
     let alloc = rt.alloc();
-    let cases: [(&[&str], &[u8]); 6] = [
+    let cases: [(&[&str], &[u8]); 7] = [
         (&[], b"usage: word 0\n"),
         (&["copy"], b"usage: word 1\n"),
         (&["copy", "len4"], b"usage: word 2\n"),
         (&["copy", "len4", "foo"], b"usage: word 2\n"),
         (&["copy", "len4", "line", "max=01"], b"usage: word 3\n"),
+        (
+            &["copy", "line", "line", "resume=9", "pause=8"],
+            b"usage: word 3\n",
+        ),
         (
             &["copy", "line", "len4", "max=1", "max=1"],
             b"usage: word 4\n",
