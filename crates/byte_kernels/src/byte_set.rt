@@ -1,6 +1,6 @@
 //! Sets of bytes.
 
-ghost use Rattle.std.specs.Prelude.{◌≡◌, ◌<◌, ◌||◌, ◌==◌, ◌↔◌, ℕ, Contains, IsTrue};
+ghost use Rattle.std.specs.Prelude.{◌≡◌, ◌||◌, ◌==◌, ◌↔◌, ℕ, Contains, IsTrue};
 
 /// A set of bytes, with a bit for each that there is. It takes as long to test a byte whatever the set.
 #[derive(Clone, Copy, Debug, PartialEq, Eq)]
@@ -13,7 +13,7 @@ impl ByteSet {
 
     /// The set of the bytes that `bytes` has, in any order and each any number of times.
     pub fn of(bytes: &[u8]) -> ByteSet
-        ensures { (byte : ℕ) → byte < 256 → IsTrue (contains result byte) ↔ Contains bytes.now byte }
+        ensures { (byte : ℕ) → IsTrue (contains result byte) ↔ Contains bytes.now byte }
     {
         let mut set = ByteSet { words: [0; 4] };
         for byte in bytes {
@@ -24,7 +24,7 @@ impl ByteSet {
 
     // The set with one more byte.
     fn with(self, byte: u8) -> ByteSet
-        ensures { (other : ℕ) → other < 256 → contains result other ≡ (contains self other || other == byte) }
+        ensures { (other : ℕ) → contains result other ≡ (contains self other || other == byte) }
     {
         let mut words = self.words;
         words[usize::from(byte / 64)] |= 1 << (byte % 64);
