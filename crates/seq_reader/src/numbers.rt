@@ -1,6 +1,6 @@
 //! Reading numbers.
 
-ghost use Rattle.std.specs.Prelude.{◌≡◌, ◌≤◌, ◌<◌, length, option_map};
+ghost use Rattle.std.specs.Prelude.{◌≡◌, option_map};
 ghost use Rattle.std.specs.Int.{from_be_bytes, from_le_bytes, w16, w32, w64};
 ghost use Rattle.seq_reader.specs.Reading.{front, moved, read_of, rest_of};
 

@@ -1,6 +1,6 @@
 //! A reader of a sequence.
 
-ghost use Rattle.std.specs.Prelude.{◌≡◌, ◌==◌, ◌&&◌, ◌+◌, ◌-◌, ◌<◌, ◌≤◌, ◌↔◌, [], length, take, IsTrue, is_some, if◌then◌else◌, slice_get, slice_index_or};
+ghost use Rattle.std.specs.Prelude.{◌≡◌, ◌&&◌, ◌-◌, ◌<◌, ◌≤◌, ◌↔◌, [], length, take, IsTrue, is_some, if◌then◌else◌, slice_get, slice_index_or};
 ghost use Rattle.span_seq.specs.Spans.{spans_of};
 ghost use Rattle.span_seq.specs.Sequence.{bytes, part};
 ghost use Rattle.seq_reader.specs.Reading.{list_of, moved, rest_of, rest_part};

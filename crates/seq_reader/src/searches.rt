@@ -1,10 +1,9 @@
 //! Reading up to a byte, and over bytes.
 
-ghost use Rattle.std.specs.Prelude.{◌≡◌, ◌==◌, not, is_some, option_map, position};
+ghost use Rattle.std.specs.Prelude.{◌≡◌, ◌==◌, not, is_some, option_map, position, take};
 ghost use Rattle.std.specs.List.{prefix_len};
 ghost use Rattle.byte_kernels.specs.ByteSet.{contains};
-ghost use Rattle.span_seq.specs.Spans.{bytes_of};
-ghost use Rattle.span_seq.specs.Sequence.{part};
+ghost use Rattle.span_seq.specs.Sequence.{bytes, part};
 ghost use Rattle.seq_reader.specs.Reading.{moved, moved_to, next_part, rest_of};
 
 use crate::reader::SeqReader;
@@ -41,6 +40,7 @@ impl<'a, C: Spans> SeqReader<'a, C> {
     /// What stands before the next such byte, to which it goes, or past it where `past`, as `TryReadTo`.
     pub fn read_to(&mut self, byte: u8, past: bool) -> Option<Sequence<'a, C>>
         ensures before { option_map part result ≡ option_map (next_part self.old) (position (λ other. other == byte) (rest_of self.old)) }
+        ensures bytes { option_map bytes result ≡ option_map (λ index. take index (rest_of self.old)) (position (λ other. other == byte) (rest_of self.old)) }
         ensures place { self.new ≡ moved_to self.old (position (λ other. other == byte) (rest_of self.old)) past }
     {
         self.read_up_to(&Byte(byte), past)
@@ -49,6 +49,7 @@ impl<'a, C: Spans> SeqReader<'a, C> {
     /// What stands before the next byte of the set, to which it goes, or past it where `past`, as `TryReadToAny`.
     pub fn read_to_any(&mut self, set: &ByteSet, past: bool) -> Option<Sequence<'a, C>>
         ensures before { option_map part result ≡ option_map (next_part self.old) (position (contains set.now) (rest_of self.old)) }
+        ensures bytes { option_map bytes result ≡ option_map (λ index. take index (rest_of self.old)) (position (contains set.now) (rest_of self.old)) }
         ensures place { self.new ≡ moved_to self.old (position (contains set.now) (rest_of self.old)) past }
     {
         self.read_up_to(&AnyOf(set), past)
@@ -107,6 +108,7 @@ impl<'a, C: Spans> SeqReader<'a, C> {
     #[inline]
     fn read_up_to<S: Search>(&mut self, search: &S, past: bool) -> Option<Sequence<'a, C>>
         ensures before { option_map part result ≡ option_map (next_part self.old) (position (S.meets search.now) (rest_of self.old)) }
+        ensures bytes { option_map bytes result ≡ option_map (λ index. take index (rest_of self.old)) (position (S.meets search.now) (rest_of self.old)) }
         ensures place { self.new ≡ moved_to self.old (position (S.meets search.now) (rest_of self.old)) past }
     {
         let rest = self.unread();

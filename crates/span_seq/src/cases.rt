@@ -1,6 +1,6 @@
 //! Worked cases of the definitions, computed by the check. These functions do nothing.
 
-ghost use Rattle.std.specs.Prelude.{◌≡◌, [], ◌∷◌, ℕ, List};
+ghost use Rattle.std.specs.Prelude.{◌≡◌, [], ◌∷◌};
 ghost use Rattle.span_seq.specs.Spans.{bytes_of, keep, skip, spans_of, whole_of};
 ghost use Rattle.span_seq.specs.Cases.{four_spans, from_to};
 

@@ -9,7 +9,7 @@ pub struct Position {
 }
 
 impl Model for Position {
-    ghost use Rattle.std.specs.Prelude.{ℕ, ◌≡◌};
+    ghost use Rattle.std.specs.Prelude.{ℕ};
 
     ghost Value = { ℕ };
 

@@ -1,8 +1,8 @@
 //! A part of the concatenated spans.
 
-ghost use Rattle.std.specs.Prelude.{◌≡◌, ◌==◌, ◌+◌, ◌-◌, ◌^◌, ◌<◌, ◌≤◌, ◌↔◌, ◌∷◌, ◌++◌, [], List, ℕ, length, min, take, drop, All, IsTrue, IsNone, IsSome, IfNone, IfSome, IfOk, option_map, position, slice_index_or, slice_range};
+ghost use Rattle.std.specs.Prelude.{◌≡◌, ◌==◌, ◌+◌, ◌-◌, ◌^◌, ◌<◌, ◌≤◌, ◌↔◌, ◌∷◌, ◌++◌, [], length, min, take, drop, All, IsTrue, IsNone, IsSome, IfNone, IfSome, IfOk, option_map, position, slice_index_or, slice_range};
 ghost use Rattle.std.specs.List.{concat};
-ghost use Rattle.span_seq.specs.Spans.{Holds, IsAt, IsAtByte, IsPart, bytes_of, has_bytes, size_of, spans_of, whole_of};
+ghost use Rattle.span_seq.specs.Spans.{Holds, IsAt, IsAtByte, IsPart, size_of, spans_of, whole_of};
 
 use crate::position::Position;
 use crate::search::{Byte, Search};

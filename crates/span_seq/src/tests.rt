@@ -1,6 +1,6 @@
 //! What sequences answer on known spans.
 
-ghost use Rattle.std.specs.Prelude.{◌≡◌, ◌+◌, ◌≤◌, [], ◌∷◌, length};
+ghost use Rattle.std.specs.Prelude.{[], ◌∷◌};
 
 use crate::*;
 use std::process::Abort;
