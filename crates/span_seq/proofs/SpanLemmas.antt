@@ -373,3 +373,8 @@ filled_by_recursion (x ∷ xs) =
 
 pub spans_are_filled : (p : Part) → All (λ span. 0 < length span) (spans_of p)
 spans_are_filled p = All-from_recursion (λ span. 0 < length span) (spans_of p) (filled_by_recursion (keep (p.to - p.from) (skip p.from p.spans)))
+
+-- what was passed, the first span of the rest, and what stands behind it
+pub split_at_front : (before first rest whole : List ℕ) → whole ≡ before ++ rest → take (length first) rest ≡ first → whole ≡ before ++ (first ++ drop (length first) rest)
+split_at_front before first rest whole parts front =
+    parts ∙ ap (λ l. before ++ l) (sym (take-append-drop (length first) rest) ∙ ap (λ l. l ++ drop (length first) rest) front)

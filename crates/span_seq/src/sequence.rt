@@ -225,12 +225,14 @@ impl<'a, C: Spans> Sequence<'a, C> {
     {
         let mut rest = *self;
         let mut passed = 0;
-        while let Some((first, behind)) = rest.split_first() {
+        while !rest.is_empty() {
+            let first = rest.first();
             if let Some(index) = search.index_in(first) {
                 return Some(passed + index as u64);
             }
-            passed += first.len() as u64;
-            rest = behind;
+            let len = first.len() as u64;
+            passed += len;
+            rest = rest.without_front(len);
         }
         None
     }
