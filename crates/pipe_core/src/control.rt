@@ -1,6 +1,6 @@
 //! A pipe's marks and flags, and what each call answers by them.
 
-ghost use Rattle.std.specs.Prelude.{◌≡◌, ◌+◌, ◌^◌, ◌<◌, ◌↔◌, ℕ, List, [], length, is_some, Some, IsSome, IsNone, IsErr, IfErr, IfOk, OnErr};
+ghost use Rattle.std.specs.Prelude.{◌≡◌, ◌+◌, ◌^◌, ◌<◌, ◌≤◌, ◌↔◌, ℕ, List, [], length, is_some, Some, IsSome, IsNone, IsErr, IfErr, IfOk, OnErr};
 ghost use Rattle.pipe_core.specs.History.{Run, Commit, EndWriter, Read, Advance, EndReader, CancelRead, CancelFlush, bytes_of};
 ghost use Rattle.pipe_core.specs.Answers.{Flushed, Gave, Woke};
 ghost use Rattle.pipe_core.specs.Standing.{StandsFor, AreThresholds, MayAdvance, Answers};
@@ -70,6 +70,7 @@ impl Control {
         ensures unchanged { OnErr result (self.new ≡ self.old) }
         ensures answers { IfOk result (λ answer. (runs : List Run) → length (bytes_of runs) ≡ n →
             Answers self.old (Commit runs) (Flushed answer.0 answer.1) self.new) }
+        ensures committed { self.new.committed ≤ self.old.committed + n }
 
         // Whether an end has completed, and what is lent, stays with either outcome.
         ensures ended { self.new.ended ≡ self.old.ended }
@@ -200,6 +201,20 @@ impl Control {
         };
         self.marks = after;
         after.woken_since(&before)
+    }
+
+    // The total.
+    pub(crate) fn committed(&self) -> u64
+        ensures { result ≡ self.now.committed }
+    {
+        self.marks.committed
+    }
+
+    // How many bytes the reader has given up.
+    pub(crate) fn consumed(&self) -> u64
+        ensures { result ≡ self.now.consumed }
+    {
+        self.marks.consumed
     }
 
     // Whether the reader has completed.
