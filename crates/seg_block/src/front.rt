@@ -67,7 +67,8 @@ impl SegFront {
         requires end { (gate.role ≡ front) × (gate.names.size ≡ size) × IsBlockSize size
             × IsKnownOf gate start × (gate.log ≡ []) }
         requires lies { (none.ptr ≡ place gate.base 0) × (none.items ≡ []) }
-        ensures { (result.gate ≡ gate) × (result.shown ≡ 0) × (result.id ≡ id) × (result.size ≡ size) }
+        ensures { (result.gate ≡ gate) × (result.shown ≡ 0) × (result.start ≡ start)
+            × (result.id ≡ id) × (result.size ≡ size) }
     {
         let kept = gate.house(0, 0, none);
         SegFront {
