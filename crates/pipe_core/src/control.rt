@@ -103,7 +103,8 @@ impl Control {
     pub fn read(&mut self) -> (ReadReply, Wake)
         requires attended { IsNone self.old.gone }
         requires no_lend { IsNone self.old.lent }
-        ensures { Answers self.old Read (Gave result.0 result.1) self.new }
+        ensures answers { Answers self.old Read (Gave result.0 result.1) self.new }
+        ensures committed { self.new.committed ≡ self.old.committed }
     {
         let before = self.marks;
         let ready = before.reads_now();
@@ -129,7 +130,8 @@ impl Control {
     /// `PipeReader.AdvanceTo(consumed, examined)` does. An examined mark never goes back.
     pub fn advance(&mut self, c: u64, e: u64) -> Wake
         requires { MayAdvance self.old.lent c e }
-        ensures { Answers self.old (Advance c e) (Woke result) self.new }
+        ensures answers { Answers self.old (Advance c e) (Woke result) self.new }
+        ensures committed { self.new.committed ≡ self.old.committed }
     {
         let before = self.marks;
         let examined = before.examined.max(before.consumed + e);
@@ -148,7 +150,8 @@ impl Control {
     /// Completes the writer, as `PipeWriter.Complete` does, with a code: 0 for success. What is committed stays readable.
     pub fn end_writer(&mut self, code: u32) -> Wake
         requires { IsNone self.old.ended }
-        ensures { Answers self.old (EndWriter code) (Woke result) self.new }
+        ensures answers { Answers self.old (EndWriter code) (Woke result) self.new }
+        ensures committed { self.new.committed ≡ self.old.committed }
     {
         let before = self.marks;
         let after = Marks {
@@ -163,7 +166,8 @@ impl Control {
     /// Completes the reader, as `PipeReader.Complete` does, with a code: 0 for success. A lend and a pause end by it.
     pub fn end_reader(&mut self, code: u32) -> Wake
         requires { IsNone self.old.gone }
-        ensures { Answers self.old (EndReader code) (Woke result) self.new }
+        ensures answers { Answers self.old (EndReader code) (Woke result) self.new }
+        ensures committed { self.new.committed ≡ self.old.committed }
     {
         let before = self.marks;
         let after = Marks {

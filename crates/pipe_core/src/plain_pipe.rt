@@ -148,6 +148,7 @@ impl PlainPipe {
         requires no_lend { IsNone self.old.control.lent }
         ensures answers { PipeAnswers self.old Read (Gave result.0 result.1) self.new }
         ensures bytes { self.new.bytes ≡ self.old.bytes }
+        ensures committed { self.new.control.committed ≡ self.old.control.committed }
     {
         self.control.read()
     }
@@ -169,6 +170,7 @@ impl PlainPipe {
         requires { MayAdvance self.old.control.lent c e }
         ensures answers { PipeAnswers self.old (Advance c e) (Woke result) self.new }
         ensures draft { self.new.bytes.draft ≡ self.old.bytes.draft }
+        ensures committed { self.new.control.committed ≡ self.old.control.committed }
     {
         let wake = self.control.advance(c, e);
         self.buffer.release(c as usize);
@@ -227,6 +229,7 @@ impl PlainPipe {
         ensures nothing_drafted { self.old.bytes.draft ≡ [] → IsOk result }
         ensures answers { IfOk result (λ wake. PipeCloses self.old (closing self.old.bytes.draft code) wake self.new) }
         ensures draft { OnOk result (self.new.bytes.draft ≡ []) }
+        ensures committed { self.new.control.committed ≤ self.old.control.committed + length self.old.bytes.draft }
     {
         if self.buffer.draft_len() == 0 {
             return Ok(self.control.end_writer(code));
@@ -241,6 +244,7 @@ impl PlainPipe {
         requires { IsNone self.old.control.gone }
         ensures answers { PipeAnswers self.old (EndReader code) (Woke result) self.new }
         ensures draft { self.new.bytes.draft ≡ self.old.bytes.draft }
+        ensures committed { self.new.control.committed ≡ self.old.control.committed }
     {
         self.buffer.release_all();
         self.control.end_reader(code)
