@@ -123,7 +123,7 @@ def wrong_words():
     cases = [
         ([], 0), (["Copy", "len4", "line"], 0), (["--help", "x"], 0), (["--verbose"], 0), (["copy"], 1), (["copy", "len4"], 2),
         (["copy", "len4", "lines"], 2), ([*COPY, "x"], 3), ([*COPY, "max=01"], 3), ([*COPY, "max=16777217"], 3),
-        ([*COPY, "max=1", "max=1"], 4),
+        ([*COPY, "max=1", "max=1"], 4), ([*COPY, "seg=63"], 3), ([*COPY, "resume=70000"], 3), ([*COPY, "resume=9", "pause=8"], 3),
     ]
     for words, index in cases:
         check(f"words {words}", run(words, [FRAME]), (b"", 1, f"usage: word {index}\n".encode()))
