@@ -1,0 +1,12 @@
+//! Reading a sequence of bytes from its front.
+#![tactic(auto)]
+
+mod cases;
+mod numbers;
+mod reader;
+mod searches;
+#[cfg(test)]
+mod tests;
+
+pub use cases::{number_cases, rest_cases, search_cases};
+pub use reader::SeqReader;

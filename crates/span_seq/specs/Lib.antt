@@ -1,0 +1,4 @@
+pub mod Cases
+pub mod Sequence
+pub mod SpanIter
+pub mod Spans
