@@ -1,11 +1,10 @@
 -- What a lend is, and what the frames of it come to in all that is committed.
-use Rattle.std.proofs.Common.{◌≡◌, ◌≢◌, ◌<◌, ◌≤◌, ◌+◌, ◌-◌, ◌*◌, ◌^◌, ℕ, zero, suc, Bool, true, false, cond, List, [], ◌∷◌, ◌++◌, length, take, drop, Option, Some, None, refl, sym, ap, ◌∙◌, subst, append-nil, append_assoc, arith, add-zero, min, inl, inr, ◌⊎◌}
-use Rattle.std.specs.Prelude.{is_none, max, ◌==◌, unwrap_or}
+use Rattle.std.proofs.Common.{◌≡◌, ◌≢◌, ◌<◌, ◌≤◌, ◌+◌, ◌*◌, ◌^◌, ℕ, Bool, true, false, cond, List, [], ◌∷◌, ◌++◌, length, take, drop, Option, Some, None, refl, sym, ap, ◌∙◌, subst, append-nil, append_assoc, arith, add-zero, inl, inr, ◌⊎◌}
+use Rattle.std.specs.Prelude.{is_none, max, unwrap_or}
 use Rattle.std.proofs.lemmas.Grind.{flat_map-append}
 use mathlib.Core.List.{IsPrefix}
-use Rattle.edge_core.specs.Device.{SinkState}
 use Rattle.std.proofs.lemmas.Bool.Decides.{Decides-eqb}
-use Rattle.std.proofs.lemmas.List.{length-append, length-drop, length-take, take-append-drop, drop-append-le, drop-drop, take-append-le, take_all}
+use Rattle.std.proofs.lemmas.List.{length-append, length-drop, take-append-drop, drop-append-le, drop-drop, take-append-le, take_all}
 use Rattle.frame_model.specs.declared.framing.Framing.{Framing}
 use Rattle.frame_model.specs.declared.framing.Framing.TheVariants.{Len4, Len2, Line}
 use Rattle.frame_model.specs.declared.framing.BadKind.{BadKind}
@@ -25,7 +24,7 @@ use Rattle.pipe_core.specs.Reads.{read_is_ready, reply_to_read}
 use Rattle.pipe_core.specs.Lends.{lend}
 use Rattle.pipe_core.specs.Legal.{IsLegal}
 use Rattle.pipe_core.proofs.OrderLemmas.{ordered, seen_all, total_commit}
-use Rattle.relay_engine.specs.Frames.{Breaks, Drains, Passes, StopsAt, capped, verdict_of}
+use Rattle.relay_engine.specs.Frames.{Passes, StopsAt, capped, verdict_of}
 use Rattle.relay_engine.specs.Drainer.{DrainState, Ends, Fails, IsAsked, IsDrained, Passed, Rests, end_code, is_success, is_whole, looked_at, translated}
 use Rattle.relay_engine.specs.Drainer.{verdict_of as is_verdict_of}
 use Rattle.relay_engine.specs.Passing.{added, end_at}
@@ -34,7 +33,6 @@ use Rattle.relay_engine.specs.declared.drainer.DrainEnd.TheVariants as ends
 use Rattle.relay_engine.specs.declared.drainer.DrainStep.TheVariants.{Done}
 use Rattle.relay_engine.specs.declared.frames.Stop.{Stop}
 use Rattle.relay_engine.specs.declared.frames.Stop.TheVariants as stops
-use Rattle.relay_engine.specs.declared.frames.Drained.{Drained}
 use Rattle.relay_engine.proofs.FrameLemmas.{may_stop, passed_text, passes_more}
 use Rattle.relay_engine.proofs.CountLemmas.{frames_all, frames_before}
 

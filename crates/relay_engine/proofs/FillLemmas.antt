@@ -1,18 +1,17 @@
 -- The parts of a filler's step, put together.
-use Rattle.std.proofs.Common.{◌≡◌, ◌<◌, ◌≤◌, ◌+◌, ◌-◌, ℕ, Bool, true, false, List, [], ◌∷◌, ◌++◌, length, take, drop, Option, Some, None, Result, Ok, Err, refl, sym, ap, ◌∙◌, subst, append_assoc, append-nil, arith, inl, inr, min}
+use Rattle.std.proofs.Common.{◌≡◌, ◌<◌, ◌≤◌, ◌+◌, ◌-◌, ℕ, Bool, true, false, List, [], ◌∷◌, ◌++◌, length, take, Some, None, Ok, Err, refl, sym, ap, ◌∙◌, subst, append_assoc, append-nil, arith, inl, inr}
 use Rattle.std.proofs.lemmas.List.{length-take}
-use Rattle.std.specs.Io.KnownBytes.{IsAtEnd}
-use Rattle.edge_core.specs.Device.{SourceState, Gives, Fails}
+use Rattle.edge_core.specs.Device.{SourceState, Gives}
 use Rattle.frame_model.specs.declared.ending.FillEnd.{FillEnd}
 use Rattle.frame_model.specs.declared.ending.FillEnd.TheVariants as taking
 use Rattle.pipe_core.specs.declared.reply.FlushReply.{FlushReply}
 use Rattle.pipe_core.specs.declared.reply.FlushReply.TheVariants as flush
-use Rattle.pipe_core.specs.History.{Run, Call, Commit, EndWriter}
+use Rattle.pipe_core.specs.History.{Call, Commit, EndWriter}
 use Rattle.pipe_core.specs.Flushes.{reply_to_commit}
 use Rattle.pipe_core.specs.Pipe.{runs_of}
 use Rattle.pipe_core.proofs.PipeLemmas.{bytes_of_runs}
 use Rattle.relay_engine.specs.Ends.{ReadsWithin, Shape, Writer, drafted}
-use Rattle.relay_engine.specs.Filler.{AskedAgain, Commits, FilledBy, FillState, FillsOnce, IfMore, Settles, Took, TookNone, asked, end_code, owes, written}
+use Rattle.relay_engine.specs.Filler.{AskedAgain, Commits, FilledBy, FillState, FillsOnce, IfMore, Settles, Took, TookNone, asked, end_code, written}
 use Rattle.relay_engine.specs.declared.filler.FillStep.{FillStep}
 use Rattle.relay_engine.specs.declared.filler.FillStep.TheVariants.{Moved, Paused, Full, Done}
 

@@ -1,5 +1,5 @@
 -- How a relay on one thread ends.
-use Rattle.std.proofs.Common.{◌≡◌, ◌≢◌, ◌<◌, ◌≤◌, ◌+◌, ◌*◌, ◌^◌, ℕ, Bool, true, false, List, [], ◌∷◌, ◌++◌, length, Option, Some, None, refl, sym, ap, ◌∙◌, subst, append-nil, arith, inl, inr, ◌⊎◌}
+use Rattle.std.proofs.Common.{◌≡◌, ◌≢◌, ◌≤◌, ◌^◌, ℕ, Bool, true, false, List, [], ◌++◌, length, Option, Some, None, refl, sym, ap, ◌∙◌, subst, append-nil, arith, inl, inr, ◌⊎◌}
 use Rattle.std.specs.Prelude.{unwrap_or, option_map}
 use Rattle.std.proofs.KnownBytes.{Appends-trans}
 use mathlib.Core.List.{IsPrefix}
@@ -7,21 +7,17 @@ use Rattle.edge_core.specs.Device.{SourceState, SinkState, Takes, HasRisen}
 use Rattle.edge_core.proofs.DeviceLemmas.{Takes-trans}
 use Rattle.std.specs.Io.KnownBytes.{Appends}
 use Rattle.frame_model.specs.declared.job.Job.{Job}
-use Rattle.frame_model.specs.declared.framing.BadKind.{BadKind}
 use Rattle.frame_model.specs.declared.ending.FillEnd.{FillEnd}
 use Rattle.frame_model.specs.declared.ending.FillEnd.TheVariants as taking
-use Rattle.frame_model.specs.declared.ending.Outcome.{Outcome}
 use Rattle.frame_model.specs.Cut.{Verdict}
-use Rattle.frame_model.specs.Translation.{Translation, translation}
+use Rattle.frame_model.specs.Translation.{translation}
 use Rattle.frame_model.specs.Ending.{is_at_end, outcome_of, status_of}
-use Rattle.relay_model.specs.Run.{IsReported, IsTaken, Run, frames_in, outcome}
-use Rattle.pipe_core.specs.declared.reply.ReadReply.TheVariants as read
+use Rattle.relay_model.specs.Run.{IsReported, IsTaken, Run, frames_in}
 use Rattle.pipe_core.specs.History.{Call, writer_end}
 use Rattle.pipe_core.specs.Progress.{total}
 use Rattle.pipe_core.specs.Reads.{reply_to_read}
 use Rattle.pipe_core.specs.Pipe.{Pipe, HoldsFor}
 use Rattle.relay_engine.specs.Ends.{reader_of}
-use Rattle.relay_engine.specs.Frames.{capped}
 use Rattle.relay_engine.specs.Filler.{FillState}
 use Rattle.relay_engine.specs.Filler.{end_code as fill_code}
 use Rattle.relay_engine.specs.Drainer.{DrainState, DrainedBy, DrainsOnce, Ends, Fails, Gains, IsAsked, end_code, is_whole, translated}

@@ -1,32 +1,27 @@
 -- A fill step of a relay whose pipe rests.
-use Rattle.std.proofs.Common.{◌≡◌, ◌≢◌, ◌<◌, ◌≤◌, ◌+◌, ◌-◌, ◌*◌, ◌^◌, ℕ, Bool, true, false, cond, if◌then◌else◌, nat_lt, List, [], ◌∷◌, ◌++◌, length, take, drop, Option, Some, None, refl, sym, ap, ◌∙◌, subst, append-nil, append_assoc, arith, inl, inr, ◌⊎◌}
-use Rattle.std.specs.Prelude.{is_none, is_some, option_map, unwrap_or}
-use Rattle.std.specs.Io.KnownBytes.{IsAtEnd}
+use Rattle.std.proofs.Common.{◌≡◌, ◌≢◌, ◌≤◌, ◌+◌, ◌-◌, ◌*◌, ℕ, Bool, true, false, cond, if◌then◌else◌, nat_lt, List, [], ◌∷◌, ◌++◌, length, drop, Option, Some, None, refl, sym, ap, ◌∙◌, subst, append-nil, arith, inl, inr, ◌⊎◌}
+use Rattle.std.specs.Prelude.{is_none, option_map, unwrap_or}
 use Rattle.std.proofs.KnownBytes.{Consumes-trans, Consumes-kept}
-use Rattle.std.proofs.lemmas.List.{length-append, length-drop, take-append-le, take_all}
-use Rattle.edge_core.specs.Device.{SourceState, SinkState, Gives, Fails}
+use Rattle.std.proofs.lemmas.List.{length-append, take_all}
+use Rattle.edge_core.specs.Device.{SourceState, SinkState, Gives}
 use Rattle.frame_model.specs.declared.job.Job.{Job}
 use Rattle.frame_model.specs.declared.ending.FillEnd.{FillEnd}
 use Rattle.frame_model.specs.declared.ending.FillEnd.TheVariants as taking
 use Rattle.frame_model.specs.Spelling.{longest_frame}
-use Rattle.frame_model.specs.Translation.{translation}
 use Rattle.pipe_core.specs.declared.reply.FlushReply.{FlushReply}
 use Rattle.pipe_core.specs.declared.reply.FlushReply.TheVariants as flush
 use Rattle.pipe_core.specs.declared.reply.ReadReply.TheVariants as read
 use Rattle.pipe_core.specs.History.{Call, Run, Commit, EndWriter, bytes_of, writer_end, reader_end}
-use Rattle.pipe_core.specs.Progress.{total, consumed, examined, held}
+use Rattle.pipe_core.specs.Progress.{total, examined, held}
 use Rattle.pipe_core.specs.Reads.{reply_to_read}
 use Rattle.pipe_core.specs.Flushes.{reply_to_commit}
 use Rattle.pipe_core.specs.Legal.{IsLegal}
-use Rattle.pipe_core.specs.Bytes.{capacity_of}
-use Rattle.pipe_core.specs.Pipe.{Pipe, HoldsFor, kept, runs_of}
-use Rattle.pipe_core.specs.Standing.{AreThresholds}
-use Rattle.pipe_core.proofs.OrderLemmas.{ordered, total_commit}
+use Rattle.pipe_core.specs.Pipe.{Pipe, HoldsFor, runs_of}
+use Rattle.pipe_core.proofs.OrderLemmas.{total_commit}
 use Rattle.pipe_core.proofs.PipeLemmas.{bytes_of_runs}
-use Rattle.relay_engine.specs.Ends.{GivesOneMore, Shape, shape_of, writer_of}
-use Rattle.relay_engine.specs.Filler.{AskedAgain, FilledBy, FillState, FillsOnce, Took, TookNone, asked, end_code, written}
-use Rattle.relay_engine.specs.Frames.{Passes}
-use Rattle.relay_engine.specs.Drainer.{DrainState, IsDrained, looked_at}
+use Rattle.relay_engine.specs.Ends.{Shape, shape_of, writer_of}
+use Rattle.relay_engine.specs.Filler.{FillState, FillsOnce, Took, TookNone, asked, end_code}
+use Rattle.relay_engine.specs.Drainer.{DrainState, looked_at}
 use Rattle.relay_engine.specs.Pump.{ended_by}
 use Rattle.relay_engine.specs.declared.filler.FillStep.{FillStep}
 use Rattle.relay_engine.specs.declared.filler.FillStep.TheVariants.{Moved, Paused, Full, Done}

@@ -1,8 +1,7 @@
 -- How a relay on one thread goes on.
-use Rattle.std.proofs.Common.{◌≡◌, ◌≢◌, ◌<◌, ◌≤◌, ◌+◌, ◌-◌, ◌*◌, ◌^◌, ℕ, Bool, true, false, cond, if◌then◌else◌, nat_lt, List, [], ◌∷◌, ◌++◌, length, take, drop, Option, Some, None, refl, sym, ap, ◌∙◌, subst, append-nil, append_assoc, arith, inl, inr, ◌⊎◌}
+use Rattle.std.proofs.Common.{◌≡◌, ◌≢◌, ◌<◌, ◌≤◌, ◌+◌, ◌-◌, ◌*◌, ℕ, Bool, true, false, cond, if◌then◌else◌, nat_lt, List, [], ◌∷◌, ◌++◌, length, Option, Some, None, refl, sym, ap, ◌∙◌, subst, append-nil, arith}
 use Rattle.std.specs.Prelude.{is_none, is_some, option_map, ◌||◌}
-use Rattle.std.proofs.KnownBytes.{Appends-trans, Consumes-nil, Consumes-trans, Consumes-kept}
-use Rattle.std.proofs.lemmas.List.{length-append, length-drop, take-append-le, take_all}
+use Rattle.std.proofs.KnownBytes.{Consumes-nil}
 use Rattle.edge_core.specs.Device.{SourceState, SinkState, Gives, Takes}
 use Rattle.edge_core.proofs.DeviceLemmas.{Takes-trans}
 use Rattle.frame_model.specs.declared.job.Job.{Job}
@@ -12,25 +11,24 @@ use Rattle.frame_model.specs.declared.framing.Framing.{Framing}
 use Rattle.frame_model.specs.declared.framing.Framing.TheVariants.{Len4, Len2, Line}
 use Rattle.frame_model.specs.Spelling.{longest_frame}
 use Rattle.frame_model.specs.Cut.{Open, cut}
-use Rattle.frame_model.specs.Translation.{translation, translation_of}
+use Rattle.frame_model.specs.Translation.{translation_of}
 use Rattle.frame_model.proofs.FrontLemmas.{front_empty}
 use Rattle.relay_engine.proofs.DeviceLemmas.{takes_nothing}
 use Rattle.relay_engine.proofs.FrameLemmas.{passes_nothing}
 use Rattle.relay_model.specs.Run.{IsTaken}
-use Rattle.pipe_core.specs.History.{Call, Run, Commit, EndWriter, Read, Advance, bytes_of, writer_end, reader_end}
-use Rattle.pipe_core.specs.Progress.{total, consumed, examined, unexamined, held, canceled_read, canceled_flush}
+use Rattle.pipe_core.specs.History.{Call, Run, Commit, Read, Advance, writer_end, reader_end}
+use Rattle.pipe_core.specs.Progress.{total, examined, unexamined, held, canceled_read, canceled_flush}
 use Rattle.pipe_core.specs.Reads.{read_is_ready, reply_to_read}
 use Rattle.pipe_core.specs.declared.reply.ReadReply.TheVariants as read
 use Rattle.pipe_core.specs.Lends.{lend}
 use Rattle.pipe_core.specs.Flushes.{flush_is_ready, reply_to_commit}
 use Rattle.pipe_core.specs.declared.reply.FlushReply.TheVariants as flush
-use Rattle.relay_engine.specs.Ends.{reader_of, writer_of}
-use Rattle.relay_engine.specs.declared.drainer.DrainStep.TheVariants.{Moved, Idle, Done}
+use Rattle.relay_engine.specs.Ends.{reader_of}
+use Rattle.relay_engine.specs.declared.drainer.DrainStep.TheVariants.{Moved, Idle}
 use Rattle.relay_engine.proofs.DrainLemmas.{ready_says}
 use Rattle.pipe_core.specs.Bytes.{capacity_of}
 use Rattle.pipe_core.specs.Pipe.{Pipe, HoldsFor}
 use Rattle.pipe_core.specs.Standing.{AreThresholds}
-use Rattle.pipe_core.proofs.OrderLemmas.{total_commit}
 use Rattle.relay_engine.specs.Filler.{FillState, written, end_code}
 use Rattle.relay_engine.specs.Drainer.{DrainState, DrainsOnce, IsDrained}
 

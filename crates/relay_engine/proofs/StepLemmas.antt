@@ -1,12 +1,11 @@
 -- The parts of a drainer's step, put together.
-use Rattle.std.proofs.Common.{◌≡◌, ◌+◌, ℕ, Bool, true, false, List, [], ◌∷◌, ◌++◌, length, drop, Option, Some, None, refl, sym, ap, ◌∙◌, subst, inl, inr, ◌⊎◌}
+use Rattle.std.proofs.Common.{◌≡◌, ℕ, Bool, false, List, [], ◌∷◌, ◌++◌, length, drop, Option, Some, None, refl, sym, ap, ◌∙◌, subst, inl, inr}
 use Rattle.std.specs.Io.KnownBytes.{Appends}
 use Rattle.std.proofs.KnownBytes.{Appends-trans}
 use Rattle.std.proofs.lemmas.List.{append-nil}
-use Rattle.edge_core.specs.Device.{SinkState, Takes, SinkFails, HasRisen}
+use Rattle.edge_core.specs.Device.{SinkState, Takes, SinkFails}
 use Rattle.edge_core.proofs.DeviceLemmas.{Takes-trans}
 use Rattle.frame_model.specs.declared.job.Job.{Job}
-use Rattle.pipe_core.specs.declared.reply.ReadReply.{ReadReply}
 use Rattle.pipe_core.specs.declared.reply.ReadReply.TheVariants as read
 use Rattle.pipe_core.specs.History.{Call, Read, Advance, EndReader, writer_end}
 use Rattle.pipe_core.specs.Progress.{held}
@@ -17,10 +16,9 @@ use Rattle.relay_engine.specs.Frames.{Breaks, Drains, verdict_of}
 use Rattle.relay_engine.specs.Drainer.{verdict_of as is_verdict_of}
 use Rattle.frame_model.specs.Cut.{Verdict}
 use Rattle.pipe_core.specs.Lends.{lend}
-use Rattle.relay_engine.specs.Drainer.{DrainState, DrainedBy, DrainsOnce, Ends, Gains, IsAsked, IsDrained, Fails, Passed, end_code, is_success, is_whole}
-use Rattle.relay_engine.specs.Passing.{BreaksLent, Finishes, PassesLent, PassesOn, WritesLent, added, end_at}
+use Rattle.relay_engine.specs.Drainer.{DrainState, DrainedBy, DrainsOnce, Ends, Gains, IsDrained, Fails, Passed, end_code, is_success}
+use Rattle.relay_engine.specs.Passing.{BreaksLent, PassesOn, WritesLent, added, end_at}
 use Rattle.relay_engine.specs.declared.frames.Stop.{Stop}
-use Rattle.relay_engine.specs.declared.frames.Stop.TheVariants as stops
 use Rattle.relay_engine.specs.declared.frames.Drained.{Drained}
 use Rattle.relay_engine.specs.declared.frames.Broken.{Broken}
 use Rattle.relay_engine.specs.declared.drainer.DrainEnd.{DrainEnd}

@@ -1,5 +1,5 @@
 -- Pieces of a text, one behind the other.
-use Rattle.std.proofs.Common.{◌≡◌, ◌+◌, ℕ, List, [], ◌++◌, length, sym, ap, ◌∙◌, subst, arith, zero-add}
+use Rattle.std.proofs.Common.{◌≡◌, ◌+◌, ℕ, List, ◌++◌, length, sym, ◌∙◌, subst, arith, zero-add}
 use Rattle.std.proofs.lemmas.List.{length-append}
 use Rattle.edge_core.specs.Device.{SinkState, Takes, TakesFront}
 use Rattle.relay_engine.specs.Text.{BreaksBehind, BreaksWithin}

@@ -6,7 +6,7 @@ use Rattle.frame_model.specs.declared.ending.FillEnd.{FillEnd}
 use Rattle.frame_model.specs.declared.ending.FillEnd.TheVariants as taking
 use Rattle.pipe_core.specs.declared.reply.FlushReply.{FlushReply}
 use Rattle.pipe_core.specs.declared.reply.FlushReply.TheVariants as flush
-use Rattle.pipe_core.specs.History.{Run, Call, Commit, EndWriter, bytes_of}
+use Rattle.pipe_core.specs.History.{Call, Commit, EndWriter, bytes_of}
 use Rattle.pipe_core.specs.Flushes.{reply_to_commit}
 use Rattle.pipe_core.specs.Pipe.{runs_of}
 use Rattle.relay_engine.specs.Ends.{GivesOneMore, Shape, Writer}

@@ -1,5 +1,5 @@
 -- A frame is its head, its payload and its tail.
-use Rattle.std.proofs.Common.{◌++◌, length, zero-add, arith, ◌∙◌, length-append}
+use Rattle.std.proofs.Common.{length, zero-add, arith, ◌∙◌, length-append}
 use Rattle.frame_model.specs.Spelling.{head_of, tail_of}
 use Rattle.edge_core.proofs.DeviceLemmas.{Takes-trans}
 use Rattle.relay_engine.proofs.DeviceLemmas.{if_err, if_err_from}

@@ -1,4 +1,4 @@
-use Rattle.std.proofs.Common.{[], refl, ◌++◌, sym, ◌∙◌, ap, length-append}
+use Rattle.std.proofs.Common.{[], refl}
 use Rattle.std.proofs.lemmas.List.{take_rest}
 use Rattle.relay_engine.proofs.DeviceLemmas.{takes_nothing}
 use Rattle.relay_engine.proofs.FrameLemmas.{passes_nothing}

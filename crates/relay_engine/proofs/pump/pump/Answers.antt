@@ -1,5 +1,5 @@
 -- Step by step.
-use Rattle.std.proofs.Common.{refl, sym, subst}
+use Rattle.std.proofs.Common.{refl}
 use Rattle.relay_engine.proofs.PumpLemmas.{idle, moved_less, moved_on, rest_less, rest_open, rest_own, starts}
 use Rattle.relay_engine.proofs.PumpFillLemmas.{filled}
 use Rattle.relay_engine.proofs.PumpEndLemmas.{finished}

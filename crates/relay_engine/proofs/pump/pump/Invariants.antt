@@ -1,6 +1,4 @@
 -- The source's bytes are those that were committed, and the sink's those that the drainer wrote.
-use Rattle.std.proofs.Common.{◌≡◌, ◌≤◌, ◌<◌, ◌+◌, ◌-◌, ◌*◌, ℕ, cond, nat_lt}
-use Rattle.std.specs.Prelude.{is_none}
 use Rattle.relay_engine.proofs.PumpLemmas.{Pumps, fuel}
 use Rattle.relay_engine.proofs.pump.pump.Given as goal
 
