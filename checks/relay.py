@@ -113,9 +113,10 @@ def random_cases(count):
         for number in range(count):
             greatest = rng.choice([USUAL_MAX, USUAL_MAX, 0, 1, 39, 200000])
             keys = [] if greatest == USUAL_MAX else [f"max={greatest}"]
+            keys += rng.choice([[], ["seg=64"], ["seg=65536"], ["pause=1"], ["pause=0", "seg=100"], ["resume=5", "pause=9", "seg=64"]])
             data = some_frames(source, greatest, rng)
             wanted = model.copy(source, sink, greatest, data)
-            name = f"copy {source} {sink} {greatest}, random input {number}"
+            name = f"copy {source} {sink} {' '.join(keys)}, random input {number}"
             check(name, run(["copy", source, sink, *keys], pieces_of(data, rng)), wanted)
 
 
