@@ -202,6 +202,20 @@ impl Control {
         after.woken_since(&before)
     }
 
+    // The total.
+    pub(crate) fn committed(&self) -> u64
+        ensures { result ≡ self.now.committed }
+    {
+        self.marks.committed
+    }
+
+    // How many bytes the reader has given up.
+    pub(crate) fn consumed(&self) -> u64
+        ensures { result ≡ self.now.consumed }
+    {
+        self.marks.consumed
+    }
+
     // Whether the reader has completed.
     pub(crate) fn is_reader_gone(&self) -> bool
         ensures { result ≡ is_some self.now.gone }

@@ -72,6 +72,27 @@ impl PlainPipe {
         self.buffer.capacity()
     }
 
+    /// How many bytes are committed and not consumed: none once the reader has completed.
+    pub fn held_len(&self) -> usize
+        ensures { result ≡ length self.now.bytes.held }
+    {
+        self.buffer.held().len()
+    }
+
+    /// The total: how many bytes were committed before the reader completed.
+    pub fn committed(&self) -> u64
+        ensures { result ≡ self.now.control.committed }
+    {
+        self.control.committed()
+    }
+
+    /// How many bytes the reader has consumed.
+    pub fn consumed(&self) -> u64
+        ensures { result ≡ self.now.control.consumed }
+    {
+        self.control.consumed()
+    }
+
     /// The free part behind the draft, as `PipeWriter.GetMemory` gives it, all of it in one piece. Its length is always the
     /// capacity less the draft, and less what is committed and not consumed. What was written to it stays there until
     /// the next `advance`, `end_reader`, `flush` or `end_writer`.
@@ -128,6 +149,7 @@ impl PlainPipe {
         requires { IsSome self.now.control.lent }
         ensures bytes { (h : List Call) → HoldsFor self.now h → lend h ≡ Some result.now }
         ensures len { self.now.control.lent ≡ Some (length result.now) }
+        ensures within { length result.now ≤ length self.now.bytes.held }
     {
         let len = self.control.lent_len() as usize;
         &self.buffer.held()[..len]
@@ -143,6 +165,47 @@ impl PlainPipe {
         let wake = self.control.advance(c, e);
         self.buffer.release(c as usize);
         wake
+    }
+
+    /// Copies these bytes behind what is committed and commits them, as `PipeWriter.WriteAsync` does, where nothing is
+    /// drafted. It answers as `flush` does. Once the reader has completed the bytes are dropped, and not copied.
+    pub fn write(&mut self, bytes: &[u8]) -> Result<(FlushReply, Wake), TooMuch>
+        requires open { IsNone self.old.control.ended }
+        requires no_draft { self.old.bytes.draft ≡ [] }
+        requires room { length bytes.now ≤ length self.old.bytes.free }
+        ensures too_much { IsErr result ↔
+            (IsNone self.old.control.gone × 2 ^ 62 < self.old.control.committed + length bytes.now) }
+        ensures told_total { IfErr result (λ refused. refused.total ≡ self.old.control.committed) }
+        ensures unchanged { OnErr result (self.new ≡ self.old) }
+        ensures answers { IfOk result (λ answer.
+            PipeAnswers self.old (Commit (runs_of bytes.now)) (Flushed answer.0 answer.1) self.new) }
+        ensures draft { self.new.bytes.draft ≡ [] }
+    {
+        let dropped = self.control.is_reader_gone();
+        let answer = self.control.commit(bytes.len() as u64)?;
+        self.buffer.commit(bytes, dropped);
+        Ok(answer)
+    }
+
+    /// Commits these bytes as `write` does, if there are any, and completes the writer with a code. After TooMuch the pipe
+    /// is as it was: neither committed nor completed.
+    pub fn write_last(&mut self, bytes: &[u8], code: u32) -> Result<Wake, TooMuch>
+        requires open { IsNone self.old.control.ended }
+        requires no_draft { self.old.bytes.draft ≡ [] }
+        requires room { length bytes.now ≤ length self.old.bytes.free }
+        ensures too_much { IsErr result ↔
+            (IsNone self.old.control.gone × 2 ^ 62 < self.old.control.committed + length bytes.now) }
+        ensures told_total { IfErr result (λ refused. refused.total ≡ self.old.control.committed) }
+        ensures unchanged { OnErr result (self.new ≡ self.old) }
+        ensures answers { IfOk result (λ wake. PipeCloses self.old (closing bytes.now code) wake self.new) }
+        ensures draft { self.new.bytes.draft ≡ [] }
+    {
+        if bytes.len() == 0 {
+            return Ok(self.control.end_writer(code));
+        }
+        let (_, first) = self.write(bytes)?;
+        let second = self.control.end_writer(code);
+        Ok(second.or(first))
     }
 
     /// Commits the draft, if there is one, and completes the writer with a code, as `PipeWriter.Complete` does. After
