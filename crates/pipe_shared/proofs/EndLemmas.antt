@@ -1,11 +1,10 @@
 -- An end after each of its calls is still that end.
-use Rattle.std.proofs.Common.{◌≡◌, ◌≤◌, ◌<◌, ◌+◌, ◌*◌, ℕ, Bool, true, false, List, [], ◌∷◌, ◌++◌, length, refl, sym, ap, subst, ◌∙◌, arith, Option, Some, None}
+use Rattle.std.proofs.Common.{◌≡◌, ◌≤◌, ◌+◌, ℕ, Bool, true, false, List, [], ◌∷◌, length, refl, sym, ap, subst, ◌∙◌, arith, None}
 use Rattle.std.specs.Prelude.{is_some, Result, Ok, Err, IfOk, IfErr}
 use Rattle.std.proofs.lemmas.List.{length-append}
-use Rattle.turn_cell.specs.History.{entries_of}
-use Rattle.turn_cell.specs.Seat.{after_find, after_put}
+use Rattle.turn_cell.specs.Seat.{after_put}
 use Rattle.pipe_core.specs.declared.reply.Wake.{Wake}
-use Rattle.pipe_core.specs.History.{Call, Commit, Read, Advance, EndReader, writer_end, reader_end}
+use Rattle.pipe_core.specs.History.{Call, Commit, Read, Advance, writer_end, reader_end}
 use Rattle.pipe_core.specs.Legal.{IsLegal}
 use Rattle.pipe_core.specs.Lends.{lend}
 use Rattle.pipe_core.specs.declared.reply.ReadReply.{ReadReply}
@@ -18,7 +17,6 @@ use Rattle.pipe_shared.specs.declared.faults.TryFault.{TryFault}
 use Rattle.pipe_shared.specs.declared.faults.TryFault.TheVariants as try
 use Rattle.pipe_shared.specs.declared.faults.FlushFault.{FlushFault}
 use Rattle.pipe_shared.specs.declared.faults.FlushFault.TheVariants as flush
-use Rattle.pipe_shared.specs.Options.{room_of}
 use Rattle.pipe_shared.specs.Log.{calls_of}
 use Rattle.pipe_shared.specs.Turns.{Seat, FindsHeld, Wins, Refuses, RefusesFlush, Makes}
 use Rattle.pipe_shared.specs.Rooms.{Drafted, Lent}

@@ -1,10 +1,9 @@
 -- What the state that a seat holds allows, by what the seat knew before it took the turn.
-use Rattle.std.proofs.Common.{◌≡◌, ◌≤◌, ◌+◌, ◌*◌, ℕ, false, List, [], ◌∷◌, length, refl, sym, ap, subst, ◌∙◌, arith, Option, Some, None}
+use Rattle.std.proofs.Common.{◌≡◌, ◌≤◌, ℕ, List, [], ◌∷◌, length, refl, sym, ap, subst, ◌∙◌, arith, Option, Some, None}
 use Rattle.std.specs.Prelude.{IsNone, IsSomeAnd, option_map, Result, Ok, Err, IfErr, IsErrAnd}
 use Rattle.turn_cell.specs.Seat.{CellState, HeldState, after_put}
-use Rattle.pipe_core.specs.History.{Call, Read, writer_end, reader_end}
+use Rattle.pipe_core.specs.History.{Read}
 use Rattle.pipe_core.specs.Lends.{lend}
-use Rattle.pipe_core.specs.Pipe.{kept}
 use Rattle.pipe_core.specs.Standing.{MayAdvance}
 use Rattle.pipe_shared.specs.declared.options.Options.{Options}
 use Rattle.pipe_shared.specs.declared.state.PipeState.{PipeState}

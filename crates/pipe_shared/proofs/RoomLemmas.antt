@@ -1,5 +1,5 @@
 -- Parts of the rooms of the two ends.
-use Rattle.std.proofs.Common.{◌≡◌, ◌≤◌, ◌+◌, ◌-◌, ℕ, List, [], ◌++◌, length, take, drop, Option, Some, refl, sym, ap, ◌∙◌, arith}
+use Rattle.std.proofs.Common.{◌≡◌, ◌≤◌, ◌+◌, ◌-◌, ℕ, List, ◌++◌, length, take, drop, Option, Some, refl, sym, ap, ◌∙◌, arith}
 use Rattle.std.specs.Prelude.{slice_range, Vec}
 use Rattle.std.specs.Vec.{with_items, with_items_from}
 use Rattle.std.proofs.lemmas.List.{length-append, length-drop, take_at, with_items_is}

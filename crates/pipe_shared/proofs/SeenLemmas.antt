@@ -1,20 +1,19 @@
 -- What a seat that has seen more still knows: nobody else makes calls of its number.
-use Rattle.std.proofs.Common.{◌≡◌, ◌≢◌, ◌≤◌, ◌<◌, ◌+◌, ◌*◌, ℕ, Bool, true, false, cond, eqb, List, [], ◌∷◌, ◌++◌, length, drop, reverse, refl, sym, ap, subst, ◌∙◌, arith, Option, Some, None, append_assoc, eq-eqb}
+use Rattle.std.proofs.Common.{◌≡◌, ◌≢◌, ◌≤◌, ℕ, Bool, true, false, cond, eqb, List, [], ◌∷◌, ◌++◌, length, drop, reverse, refl, sym, ap, subst, ◌∙◌, arith, eq-eqb}
 use Rattle.std.proofs.lemmas.Bool.{false≢true}
-use Rattle.std.specs.Prelude.{map, is_none}
+use Rattle.std.specs.Prelude.{map}
 use Rattle.std.specs.List.{All, filter}
-use Rattle.std.proofs.lemmas.List.{map-append, reverse-append, length-append, length-drop}
+use Rattle.std.proofs.lemmas.List.{reverse-append, length-append, length-drop}
 use Rattle.std.proofs.lemmas.List.Elements.{All-nil, All-cons, All-head, All-tail, All-append}
-use mathlib.Core.List.{IsPrefix}
 use Rattle.turn_cell.specs.History.{entries_of, made_by}
-use Rattle.turn_cell.specs.Seat.{SeatState, after_find, after_put}
+use Rattle.turn_cell.specs.Seat.{after_put}
 use Rattle.turn_cell.proofs.HistoryLemmas.{entries_of-append, own_more}
 use Rattle.pipe_core.specs.History.{Call, Commit, EndWriter, Read, Advance, EndReader, CancelRead, CancelFlush, writer_end, reader_end}
 use Rattle.pipe_core.specs.Legal.{seat_of}
 use Rattle.pipe_core.specs.Lends.{lend}
 use Rattle.pipe_core.specs.Pipe.{kept}
 use Rattle.pipe_core.proofs.PipeLemmas.{kept_advance}
-use Rattle.pipe_shared.specs.Log.{calls_of, IsLawful}
+use Rattle.pipe_shared.specs.Log.{calls_of}
 use Rattle.pipe_shared.specs.Turns.{Seat, Wins}
 use Rattle.pipe_shared.specs.Ends.{IsEnd}
 use Rattle.pipe_shared.proofs.StateLemmas.{calls_of-append}

@@ -1,5 +1,5 @@
 -- A call of the pipe in a state, with the number of the seat that makes it, is a step of the state.
-use Rattle.std.proofs.Common.{◌≡◌, ◌+◌, ◌≤◌, ℕ, List, [], ◌∷◌, ◌++◌, length, reverse, refl, sym, ap, subst, ◌∙◌, arith, Option, Some, None}
+use Rattle.std.proofs.Common.{◌≡◌, ℕ, List, [], ◌∷◌, ◌++◌, reverse, refl, sym, ap, subst, ◌∙◌}
 use Rattle.std.specs.Prelude.{map, Result, Ok, Err, IfOk}
 use Rattle.std.specs.List.{All}
 use Rattle.std.proofs.lemmas.List.{map-append, reverse-append}
@@ -10,12 +10,10 @@ use Rattle.pipe_core.specs.History.{Call, Commit, EndWriter}
 use Rattle.pipe_core.specs.Legal.{seat_of}
 use Rattle.pipe_core.specs.Answers.{Answer, answer_to}
 use Rattle.pipe_core.specs.Wakes.{wakes_of}
-use Rattle.pipe_core.specs.Bytes.{capacity_of}
 use Rattle.pipe_core.specs.Pipe.{Pipe, HoldsFor, PipeAnswers, PipeCloses, runs_of, closing}
 use Rattle.pipe_shared.specs.declared.state.PipeState.{PipeState}
-use Rattle.pipe_shared.specs.Options.{room_of}
 use Rattle.pipe_shared.specs.Log.{calls_of}
-use Rattle.pipe_shared.specs.State.{Keeps, Steps, Completes}
+use Rattle.pipe_shared.specs.State.{Steps, Completes}
 
 -- the calls of a longer history
 pub calls_of-append : (h g : List (ℕ × Call)) → calls_of (h ++ g) ≡ calls_of g ++ calls_of h

@@ -1,7 +1,7 @@
 -- What a seat that has the turn finds, and what it leaves.
-use Rattle.std.proofs.Common.{◌≡◌, ◌≢◌, ◌≤◌, ◌<◌, ◌+◌, ◌*◌, ◌-◌, ◌^◌, ℕ, false, List, [], ◌∷◌, ◌++◌, length, reverse, refl, sym, ap, subst, ◌∙◌, arith, Option, Some, None}
+use Rattle.std.proofs.Common.{◌≡◌, ◌*◌, ℕ, false, List, [], ◌∷◌, ◌++◌, length, reverse, sym, ap, subst, ◌∙◌, arith}
 use Rattle.turn_cell.specs.History.{made_by}
-use Rattle.turn_cell.specs.Seat.{SeatState, CellState, HeldState, Takes, after_find, after_take, after_put}
+use Rattle.turn_cell.specs.Seat.{CellState, HeldState, Takes, after_find, after_put}
 use Rattle.pipe_core.specs.History.{Call}
 use Rattle.pipe_core.specs.Legal.{seat_of}
 use Rattle.pipe_core.specs.declared.reply.Wake.{Wake}

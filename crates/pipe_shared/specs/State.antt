@@ -10,7 +10,7 @@ use Rattle.pipe_core.specs.Legal.{seat_of}
 use Rattle.pipe_core.specs.Wakes.{wakes_of}
 use Rattle.pipe_core.specs.Answers.{Answer, answer_to}
 use Rattle.pipe_core.specs.Bytes.{capacity_of}
-use Rattle.pipe_core.specs.Pipe.{Pipe, HoldsFor, closing}
+use Rattle.pipe_core.specs.Pipe.{HoldsFor, closing}
 use Rattle.pipe_shared.specs.declared.state.PipeState.{PipeState}
 use Rattle.pipe_shared.specs.Options.{room_of}
 use Rattle.pipe_shared.specs.Log.{calls_of}

@@ -56,6 +56,7 @@ impl Pipe {
         ensures good { IfOk result (λ made. first_bad options ≡ None) }
         ensures refused { IfErr result (λ error. RefusesOptions options error) }
         ensures pipe { IfOk result (λ made. made.0.name ≡ options) }
+        ensures seats { IfOk result (λ made. made.0.seats ≡ 3) }
         ensures writer { IfOk result (λ made. made.1 ≡ record { seat = new_seat made.0 0; draft = []; free = [] }) }
         ensures reader { IfOk result (λ made. made.2 ≡ record { seat = new_seat made.0 1; lent = None }) }
         ensures canceller { IfOk result (λ made. made.3 ≡ new_seat made.0 2) }
@@ -74,6 +75,7 @@ impl Pipe {
         requires size { options.segments * options.segment ≤ 2 ^ 31 }
         requires good { first_bad options ≡ None }
         ensures pipe { IfOk result (λ made. made.0.name ≡ options) }
+        ensures seats { IfOk result (λ made. made.0.seats ≡ 3) }
         ensures writer { IfOk result (λ made. made.1 ≡ record { seat = new_seat made.0 0; draft = []; free = [] }) }
         ensures reader { IfOk result (λ made. made.2 ≡ record { seat = new_seat made.0 1; lent = None }) }
         ensures canceller { IfOk result (λ made. made.3 ≡ new_seat made.0 2) }

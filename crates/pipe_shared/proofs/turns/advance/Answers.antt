@@ -1,6 +1,6 @@
 -- The state stands for the history with the call, and the seat has made it.
 use Rattle.pipe_shared.proofs.TurnLemmas.{stands_with, makes}
-use Rattle.pipe_shared.proofs.HoldLemmas.{attended, may_advance}
+use Rattle.pipe_shared.proofs.HoldLemmas.{may_advance}
 use Rattle.pipe_shared.proofs.turns.advance.Goals as goal
 
 pub put-requires-clause-stands : goal.put-requires-clause-stands

@@ -1,5 +1,5 @@
 -- The state stands for the history with the read, the seat has made it, and the copy is of what it lends.
-use Rattle.std.proofs.Common.{refl, sym}
+use Rattle.std.proofs.Common.{refl}
 use Rattle.pipe_shared.proofs.TurnLemmas.{stands_with, makes}
 use Rattle.pipe_shared.proofs.HoldLemmas.{attended, no_lend, keeps, lend_after}
 use Rattle.pipe_shared.proofs.turns.read.Goals as goal

@@ -1,7 +1,4 @@
 -- The draft has gone into the history, or has stayed.
-use Rattle.std.proofs.Common.{ap}
-use Rattle.pipe_core.specs.History.{Commit}
-use Rattle.pipe_core.specs.Pipe.{runs_of}
 use Rattle.pipe_shared.proofs.EndLemmas.{writer_refused, writer_commits}
 use Rattle.pipe_shared.proofs.pipe.Pipe.try_flush.Goals as goal
 
