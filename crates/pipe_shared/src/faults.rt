@@ -6,7 +6,7 @@ pub enum TryFault {
     /// The turn was held: the word that the one exchange of the call found, odd, twice the number of entries and one
     /// more. The call may be made again.
     Busy { word: u64 },
-    /// The history takes no more entries: how many it has, at least 2^62 - 2. No later call will be answered otherwise.
+    /// The history takes no more entries: how many it has, at least 2^62 - 2. No later call makes an entry.
     Worn { entries: u64 },
 }
 

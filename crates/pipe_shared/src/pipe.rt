@@ -15,8 +15,8 @@ use turn_cell::TurnCell;
 
 /// A byte pipe whose two ends may be used by two threads, and cancelled by a third: .NET's `Pipe`.
 ///
-/// Each call on the pipe takes the turn by one exchange or is refused as Busy. No call waits, no call but `make` takes
-/// memory, and no call is made under a lock.
+/// A try call makes one exchange at most, by which it takes the turn or is refused as Busy. No call waits, no call but
+/// `make` takes memory, and no lock stands round the pipe.
 #[derive(Drop)]
 pub struct Pipe {
     pub(crate) cell: TurnCell<PipeState>,
