@@ -1,5 +1,5 @@
 -- The bytes are committed at once, or dropped where the reader is gone.
-use Rattle.std.proofs.Common.{sym, ap, ◌∙◌, ◌∷◌}
+use Rattle.std.proofs.Common.{◌∷◌}
 use Rattle.pipe_core.specs.History.{Commit}
 use Rattle.pipe_core.specs.Pipe.{runs_of}
 use Rattle.pipe_core.proofs.PipeLemmas.{writes, draft_len_is, no_draft_after}
