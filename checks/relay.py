@@ -113,9 +113,10 @@ def random_cases(count):
         for number in range(count):
             greatest = rng.choice([USUAL_MAX, USUAL_MAX, 0, 1, 39, 200000])
             keys = [] if greatest == USUAL_MAX else [f"max={greatest}"]
+            keys += rng.choice([[], ["seg=64"], ["seg=65536"], ["pause=1"], ["pause=0", "seg=100"], ["resume=5", "pause=9", "seg=64"]])
             data = some_frames(source, greatest, rng)
             wanted = model.copy(source, sink, greatest, data)
-            name = f"copy {source} {sink} {greatest}, random input {number}"
+            name = f"copy {source} {sink} {' '.join(keys)}, random input {number}"
             check(name, run(["copy", source, sink, *keys], pieces_of(data, rng)), wanted)
 
 
@@ -123,7 +124,7 @@ def wrong_words():
     cases = [
         ([], 0), (["Copy", "len4", "line"], 0), (["--help", "x"], 0), (["--verbose"], 0), (["copy"], 1), (["copy", "len4"], 2),
         (["copy", "len4", "lines"], 2), ([*COPY, "x"], 3), ([*COPY, "max=01"], 3), ([*COPY, "max=16777217"], 3),
-        ([*COPY, "max=1", "max=1"], 4),
+        ([*COPY, "max=1", "max=1"], 4), ([*COPY, "seg=63"], 3), ([*COPY, "resume=70000"], 3), ([*COPY, "resume=9", "pause=8"], 3),
     ]
     for words, index in cases:
         check(f"words {words}", run(words, [FRAME]), (b"", 1, f"usage: word {index}\n".encode()))

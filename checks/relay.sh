@@ -9,3 +9,4 @@ fi
 program=crates/relay/out/relay
 (cd crates/relay && rt run -- --version)
 python3 -B checks/relay.py "$PWD/$program"
+python3 -B checks/memory.py "$PWD/$program"

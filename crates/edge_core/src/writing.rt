@@ -1,6 +1,6 @@
 //! Writing all of a piece.
 
-ghost use Rattle.std.specs.Prelude.{◌≡◌, [], IsOk, IfErr, OnOk};
+ghost use Rattle.std.specs.Prelude.{◌≡◌, ◌<◌, [], length, IsOk, IfErr, OnOk};
 ghost use Rattle.edge_core.specs.Device.{Takes, TakesFront};
 
 use crate::device::{Failed, Sink};
@@ -16,6 +16,7 @@ pub fn write_all<K: Sink>(sink: &mut K, piece: &[u8]) -> Result<(), BrokenOff>
     ensures whole { OnOk result (Takes (K.state sink.old) piece.now (K.state sink.new)) }
     ensures empty { piece.now ≡ [] → IsOk result × (sink.new ≡ sink.old) }
     ensures front { IfErr result (λ broken. TakesFront (K.state sink.old) piece.now broken.written (K.state sink.new)) }
+    ensures short { IfErr result (λ broken. broken.written < length piece.now) }
 {
     let mut rest = piece;
     while !rest.is_empty() {

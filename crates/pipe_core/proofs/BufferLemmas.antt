@@ -6,7 +6,7 @@ use Rattle.std.specs.List.{copy_within}
 use Rattle.std.proofs.lemmas.Bool.{cases_lt}
 use Rattle.std.proofs.lemmas.List.{length-append, length-take, length-drop, take_at, drop_at, drop-take, drop-drop, take-take, take-append-le, take-replicate}
 use Rattle.std.proofs.Math.Seq.{take-add, take-append-add}
-use Rattle.pipe_core.specs.Bytes.{Bytes, with_draft, settled, parts, IsLaidOut}
+use Rattle.pipe_core.specs.Bytes.{Bytes, with_draft, with_committed, overwritten, settled, parts, IsLaidOut}
 use Rattle.pipe_core.specs.Lending.{with_free}
 
 abbrev parts_of : List ℕ → List ℕ → List ℕ → Bytes
@@ -15,11 +15,11 @@ parts_of held draft free = record { held = held; draft = draft; free = free }
 same_parts : (a a' b b' d d' : List ℕ) → a ≡ a' → b ≡ b' → d ≡ d' → parts_of a b d ≡ parts_of a' b' d'
 same_parts a a' b b' d d' e f g = rw (e, f, g) refl
 
-empty_slice : (xs : List ℕ) (a : ℕ) → slice_range xs a a ≡ []
+pub empty_slice : (xs : List ℕ) (a : ℕ) → slice_range xs a a ≡ []
 empty_slice xs a = let none : a - a ≡ 0 = omega arith in rw none refl
 
 -- a part and the one behind it
-slice_join : (xs : List ℕ) (a b c : ℕ) → a ≤ b → b ≤ c → slice_range xs a b ++ slice_range xs b c ≡ slice_range xs a c
+pub slice_join : (xs : List ℕ) (a b c : ℕ) → a ≤ b → b ≤ c → slice_range xs a b ++ slice_range xs b c ≡ slice_range xs a c
 slice_join xs a b c low high =
     let k = b - a in
     let l = c - b in
@@ -29,25 +29,25 @@ slice_join xs a b c low high =
     ap (λ (ys : List ℕ). take k (drop a xs) ++ take l ys) rest ∙ sym (take-add k l (drop a xs)) ∙ ap (λ (n : ℕ). take n (drop a xs)) size
 
 -- the front and the rest of a part
-slice_front : (xs : List ℕ) (a n c : ℕ) → a + n ≤ c → slice_range xs a (a + n) ≡ take n (slice_range xs a c)
+pub slice_front : (xs : List ℕ) (a n c : ℕ) → a + n ≤ c → slice_range xs a (a + n) ≡ take n (slice_range xs a c)
 slice_front xs a n c within =
     let size : a + n - a ≡ n = omega arith in
     ap (λ (m : ℕ). take m (drop a xs)) size ∙ sym (take-take n (c - a) (drop a xs) (omega arith))
 
-slice_back : (xs : List ℕ) (a n c : ℕ) → a + n ≤ c → slice_range xs (a + n) c ≡ drop n (slice_range xs a c)
+pub slice_back : (xs : List ℕ) (a n c : ℕ) → a + n ≤ c → slice_range xs (a + n) c ≡ drop n (slice_range xs a c)
 slice_back xs a n c within =
     let m = c - (a + n) in
     let size : n + m ≡ c - a = omega arith in
     ap (λ (ys : List ℕ). take m ys) (sym (drop-drop n a xs)) ∙ sym (drop-take n m (drop a xs)) ∙ ap (λ (k : ℕ). drop n (take k (drop a xs))) size
 
-slice_len : (xs : List ℕ) (a b : ℕ) → length (slice_range xs a b) ≤ b - a
+pub slice_len : (xs : List ℕ) (a b : ℕ) → length (slice_range xs a b) ≤ b - a
 slice_len xs a b = omega (arith, length-take (b - a) (drop a xs))
 
-slice_whole : (xs : List ℕ) (a b : ℕ) → a ≤ b → b ≤ length xs → length (slice_range xs a b) ≡ b - a
+pub slice_whole : (xs : List ℕ) (a b : ℕ) → a ≤ b → b ≤ length xs → length (slice_range xs a b) ≡ b - a
 slice_whole xs a b low high = omega (arith, length-take (b - a) (drop a xs), length-drop a xs)
 
 -- where two lists have one front, they have the same parts in it
-same_front : (n a b : ℕ) (xs ys : List ℕ) → a ≤ b → b ≤ n → take n xs ≡ take n ys → slice_range xs a b ≡ slice_range ys a b
+pub same_front : (n a b : ℕ) (xs ys : List ℕ) → a ≤ b → b ≤ n → take n xs ≡ take n ys → slice_range xs a b ≡ slice_range ys a b
 same_front n a b xs ys low high e =
     let k = b - a in
     let size : a + k ≡ b = omega arith in
@@ -117,7 +117,7 @@ moved_draft room capacity start committed end n laid within =
     ∙ ap (λ (a : ℕ). slice_range room a end) first
 
 -- what is written over a front is written over a front of the front
-written_over : (k : ℕ) (w ys : List ℕ) → take k (w ++ drop (length w) ys) ≡ take k (w ++ drop (length w) (take k ys))
+pub written_over : (k : ℕ) (w ys : List ℕ) → take k (w ++ drop (length w) ys) ≡ take k (w ++ drop (length w) (take k ys))
 written_over k w ys = elim (cases_lt (length w) k) [
   | inl lt ↦
       let j = k - length w in
@@ -131,10 +131,10 @@ written_over k w ys = elim (cases_lt (length w) k) [
 ]
 
 -- a room with w written over it from `at` on, as far as there is room
-abbrev written : List ℕ → ℕ → ℕ → List ℕ → List ℕ
+abbrev pub written : List ℕ → ℕ → ℕ → List ℕ → List ℕ
 written room n at w = let all = take at room ++ (w ++ drop (length w) (drop at room)) in take n (all ++ drop (length all) room)
 
-written_before : (room w : List ℕ) (n at : ℕ) → length room ≡ n → at ≤ n → take at (written room n at w) ≡ take at room
+pub written_before : (room w : List ℕ) (n at : ℕ) → length room ≡ n → at ≤ n → take at (written room n at w) ≡ take at room
 written_before room w n at size within =
     let front = take at room in
     let all = front ++ (w ++ drop (length w) (drop at room)) in
@@ -143,7 +143,7 @@ written_before room w n at size within =
     ∙ ap (λ (zs : List ℕ). take at zs) (append_assoc front (w ++ drop (length w) (drop at room)) (drop (length all) room))
     ∙ take_at front ((w ++ drop (length w) (drop at room)) ++ drop (length all) room) at len
 
-written_behind : (room w : List ℕ) (n at k : ℕ) → length room ≡ n → at + k ≤ n → take k (drop at (written room n at w)) ≡ take k (w ++ drop (length w) (drop at room))
+pub written_behind : (room w : List ℕ) (n at k : ℕ) → length room ≡ n → at + k ≤ n → take k (drop at (written room n at w)) ≡ take k (w ++ drop (length w) (drop at room))
 written_behind room w n at k size within =
     let front = take at room in
     let back = w ++ drop (length w) (drop at room) in
@@ -173,3 +173,16 @@ lent_free v capacity start committed end w laid =
     (same_front end committed end (written room v.len end w) room laid.draft_in (omega arith) before)
     (written_behind room w v.len end k size (omega (arith, laid.free_in, laid.window_in, laid.room_is)) ∙ written_over k w (drop end room)
     ∙ ap (λ (n : ℕ). take n (w ++ drop (length w) (take k (drop end room)))) (sym free_len))
+
+-- bytes that were written over the front of the free part, told, and settled, are committed at once
+pub committed_by : (old told new : Bytes) (bytes w : List ℕ) → old.draft ≡ [] → length bytes ≤ length old.free → told ≡ with_draft (with_free old w) (length bytes)
+    → new ≡ settled false told → w ≡ bytes ++ drop (length bytes) old.free → new ≡ with_committed false bytes old
+committed_by old told new bytes w none fits by settles is =
+    let n = length bytes in
+    let rest = drop n old.free in
+    let size : length w ≡ length old.free = omega (arith, ap length is, length-append bytes rest, length-drop n old.free) in
+    let whole : overwritten old.free w ≡ bytes ++ rest = take_at w (drop (length w) old.free) (length old.free) size ∙ is in
+    let front : take n (overwritten old.free w) ≡ bytes = ap (λ (xs : List ℕ). take n xs) whole ∙ take_at bytes rest n refl in
+    let back : drop n (overwritten old.free w) ≡ rest = ap (λ (xs : List ℕ). drop n xs) whole ∙ drop_at bytes rest n refl in
+    let drafted : old.draft ++ take n (overwritten old.free w) ≡ bytes = ap (λ (xs : List ℕ). xs ++ take n (overwritten old.free w)) none ∙ front in
+    settles ∙ ap (settled false) by ∙ same_parts _ _ _ _ _ _ (ap (λ (xs : List ℕ). old.held ++ xs) drafted) (sym none) back

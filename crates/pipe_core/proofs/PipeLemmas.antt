@@ -13,7 +13,7 @@ use Rattle.pipe_core.specs.declared.reply.FlushReply.{FlushReply}
 use Rattle.pipe_core.specs.Wakes.{wake_of, either_wake}
 use Rattle.pipe_core.specs.Answers.{Answer, Flushed, Woke}
 use Rattle.pipe_core.specs.Standing.{MayAdvance, Answers}
-use Rattle.pipe_core.specs.Bytes.{Bytes, capacity_of, settled}
+use Rattle.pipe_core.specs.Bytes.{Bytes, capacity_of, settled, with_committed}
 use Rattle.pipe_core.specs.Pipe.{Pipe, kept, HoldsFor, runs_of, closing, PipeAnswers, PipeCloses}
 use Rattle.pipe_core.proofs.OrderLemmas.{ordered, total_commit}
 
@@ -133,9 +133,9 @@ unjoined : (w : Wake) → w ≡ either_wake w (record { reader = false; writer =
 unjoined w = rw (or-false w.reader, or-false w.writer) refl
 
 -- a completion with no draft is one call
-pub closes_alone : (p q : Pipe) (code : ℕ) (wake : Wake) → length p.bytes.draft ≡ 0 → Answers p.control (EndWriter code) (Woke wake) q.control → q.bytes ≡ p.bytes
-    → PipeCloses p (closing p.bytes.draft code) wake q
-closes_alone p q code wake none a same = rw empty (record {
+pub closes_alone : (p q : Pipe) (draft : List ℕ) (code : ℕ) (wake : Wake) → length draft ≡ 0 → Answers p.control (EndWriter code) (Woke wake) q.control → q.bytes ≡ p.bytes
+    → PipeCloses p (closing draft code) wake q
+closes_alone p q draft code wake none a same = rw empty (record {
   pause = a.pause;
   resume = a.resume;
   capacity = ap capacity_of same;
@@ -147,8 +147,8 @@ closes_alone p q code wake none a same = rw empty (record {
   stands = λ h s. record { marks = a.stands h s.marks; held = ap (λ (b : Bytes). b.held) same ∙ s.held };
 })
   where
-    empty : closing p.bytes.draft code ≡ EndWriter code ∷ []
-    empty = each p.bytes.draft none
+    empty : closing draft code ≡ EndWriter code ∷ []
+    empty = each draft none
       where
         each : (draft : List ℕ) → length draft ≡ 0 → closing draft code ≡ EndWriter code ∷ []
         each [] e = refl
@@ -159,10 +159,10 @@ closing_some [] code some = absurd (some refl)
 closing_some (b ∷ bytes) code some = refl
 
 -- a completion with a draft is a commit and a call
-pub closes_behind : (p m q : Pipe) (code : ℕ) (reply : FlushReply) (first second : Wake) → length p.bytes.draft ≢ 0
-    → PipeAnswers p (Commit (runs_of p.bytes.draft)) (Flushed reply first) m → Answers m.control (EndWriter code) (Woke second) q.control → q.bytes ≡ m.bytes
-    → PipeCloses p (closing p.bytes.draft code) (either_wake second first) q
-closes_behind p m q code reply first second some a b same = rw (closing_some p.bytes.draft code some) (record {
+pub closes_behind : (p m q : Pipe) (draft : List ℕ) (code : ℕ) (reply : FlushReply) (first second : Wake) → length draft ≢ 0
+    → PipeAnswers p (Commit (runs_of draft)) (Flushed reply first) m → Answers m.control (EndWriter code) (Woke second) q.control → q.bytes ≡ m.bytes
+    → PipeCloses p (closing draft code) (either_wake second first) q
+closes_behind p m q draft code reply first second some a b same = rw (closing_some draft code some) (record {
   pause = b.pause ∙ a.pause;
   resume = b.resume ∙ a.resume;
   capacity = ap capacity_of same ∙ a.capacity;
@@ -171,14 +171,14 @@ closes_behind p m q code reply first second some a b same = rw (closing_some p.b
   lent = b.lent ∙ a.lent;
   told = λ h s.
       let e = a.told h s in
-      let f : first ≡ wake_of p.control.pause p.control.resume (Commit (runs_of p.bytes.draft)) h = cc in
-      let g = b.told (Commit (runs_of p.bytes.draft) ∷ h) (a.stands h s).marks in
-      let i : second ≡ wake_of m.control.pause m.control.resume (EndWriter code) (Commit (runs_of p.bytes.draft) ∷ h) = cc in
-      let j : second ≡ wake_of p.control.pause p.control.resume (EndWriter code) (Commit (runs_of p.bytes.draft) ∷ h) =
-      subst (λ (pause : ℕ). second ≡ wake_of pause p.control.resume (EndWriter code) (Commit (runs_of p.bytes.draft) ∷ h)) a.pause
-      (subst (λ (resume : ℕ). second ≡ wake_of m.control.pause resume (EndWriter code) (Commit (runs_of p.bytes.draft) ∷ h)) a.resume i) in
-      both_wakes second _ first _ j (f ∙ unjoined (wake_of p.control.pause p.control.resume (Commit (runs_of p.bytes.draft)) h));
-  stands = λ h s. let t = a.stands h s in record { marks = b.stands (Commit (runs_of p.bytes.draft) ∷ h) t.marks; held = ap (λ (b : Bytes). b.held) same ∙ t.held };
+      let f : first ≡ wake_of p.control.pause p.control.resume (Commit (runs_of draft)) h = cc in
+      let g = b.told (Commit (runs_of draft) ∷ h) (a.stands h s).marks in
+      let i : second ≡ wake_of m.control.pause m.control.resume (EndWriter code) (Commit (runs_of draft) ∷ h) = cc in
+      let j : second ≡ wake_of p.control.pause p.control.resume (EndWriter code) (Commit (runs_of draft) ∷ h) =
+      subst (λ (pause : ℕ). second ≡ wake_of pause p.control.resume (EndWriter code) (Commit (runs_of draft) ∷ h)) a.pause
+      (subst (λ (resume : ℕ). second ≡ wake_of m.control.pause resume (EndWriter code) (Commit (runs_of draft) ∷ h)) a.resume i) in
+      both_wakes second _ first _ j (f ∙ unjoined (wake_of p.control.pause p.control.resume (Commit (runs_of draft)) h));
+  stands = λ h s. let t = a.stands h s in record { marks = b.stands (Commit (runs_of draft) ∷ h) t.marks; held = ap (λ (b : Bytes). b.held) same ∙ t.held };
 })
   where
     both_wakes : (v v' w w' : Wake) → v ≡ v' → w ≡ w' → either_wake v w ≡ either_wake v' w'
@@ -186,3 +186,27 @@ closes_behind p m q code reply first second some a b same = rw (closing_some p.b
 
 pub total_within : (p : Pipe) (h : List Call) → HoldsFor p h → p.control.committed ≤ 2 ^ 62
 total_within p h s = omega (arith, s.marks.committed, (ordered h s.marks.legal).total_in)
+
+committed_capacity : (b : Bytes) (dropped : Bool) (bytes : List ℕ) → length bytes ≤ length b.free → capacity_of (with_committed dropped bytes b) ≡ capacity_of b
+committed_capacity b true bytes fits = refl
+committed_capacity b false bytes fits = omega (arith, length-append b.held bytes, length-drop (length bytes) b.free)
+
+-- what a buffer holds once these bytes are committed at once
+committed_holds : (b : Bytes) (bytes : List ℕ) (h : List Call) (dropped : Bool) → dropped ≡ is_some (reader_end h) → IsLegal h → b.held ≡ kept h → (with_committed dropped bytes b).held ≡ kept (Commit (runs_of bytes) ∷ h)
+committed_holds b bytes h dropped is legal holds = rw is (each (reader_end h) (held_commit (runs_of bytes) h legal) holds)
+  where
+    each : (o : Option ℕ) → held (Commit (runs_of bytes) ∷ h) ≡ held h ++ cond (is_none o) (bytes_of (runs_of bytes)) [] → b.held ≡ cond (is_none o) (held h) []
+        → (with_committed (is_some o) bytes b).held ≡ cond (is_none o) (held (Commit (runs_of bytes) ∷ h)) []
+    each (Some code) more same = same
+    each None more same = ap (λ (xs : List ℕ). xs ++ bytes) same ∙ sym (more ∙ ap (λ (xs : List ℕ). held h ++ xs) (bytes_of_runs bytes))
+
+-- a commit of bytes that weren't drafted
+pub writes : (p q : Pipe) (bytes : List ℕ) (dropped : Bool) (answer : Answer) → dropped ≡ is_some p.control.gone → length bytes ≤ length p.bytes.free → q.bytes ≡ with_committed dropped bytes p.bytes
+    → Answers p.control (Commit (runs_of bytes)) answer q.control → PipeAnswers p (Commit (runs_of bytes)) answer q
+writes p q bytes dropped answer is fits by a =
+    pipe_answers p q (Commit (runs_of bytes)) answer a (ap capacity_of by ∙ committed_capacity p.bytes dropped bytes fits)
+    (λ h s. ap (λ (b : Bytes). b.held) by ∙ committed_holds p.bytes bytes h dropped (is ∙ ap is_some s.marks.gone) s.marks.legal s.held)
+
+pub no_draft_after : (b : Bytes) (dropped : Bool) (bytes : List ℕ) → b.draft ≡ [] → (with_committed dropped bytes b).draft ≡ []
+no_draft_after b true bytes none = none
+no_draft_after b false bytes none = none

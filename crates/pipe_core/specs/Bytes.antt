@@ -23,6 +23,10 @@ abbrev pub settled : Bool → Bytes → Bytes
 settled dropped b = if dropped then record { held = b.held; draft = []; free = b.draft ++ b.free }
     else record { held = b.held ++ b.draft; draft = []; free = b.free }
 
+-- these bytes are committed at once, or dropped, where there is no draft
+abbrev pub with_committed : Bool → List ℕ → Bytes → Bytes
+with_committed dropped bytes b = if dropped then b else record b { held = b.held ++ bytes; free = drop (length bytes) b.free }
+
 -- the parts of a room, by where they begin
 abbrev pub parts : List ℕ → ℕ → ℕ → ℕ → ℕ → Bytes
 parts room capacity start committed end = record {

@@ -1,8 +1,8 @@
 //! The bytes of a pipe, in one run.
 
-ghost use Rattle.std.specs.Prelude.{◌≡◌, ◌≤◌, [], length, drop, replicate, IfOk};
+ghost use Rattle.std.specs.Prelude.{◌≡◌, ◌≤◌, [], ◌++◌, length, drop, replicate, IfOk};
 ghost use Rattle.std.specs.Borrow.{sem};
-ghost use Rattle.pipe_core.specs.Bytes.{capacity_of, with_draft, settled};
+ghost use Rattle.pipe_core.specs.Bytes.{capacity_of, with_draft, with_committed, settled};
 ghost use Rattle.pipe_core.specs.Lending.{LendsFree};
 
 use std::alloc::{AllocError, Global};
@@ -65,12 +65,33 @@ impl Buffer {
         self.room.slice_mut(from..to)
     }
 
+    // The length of the free part.
+    pub fn free_len(&self) -> usize
+        ensures { result ≡ length self.now.free }
+    {
+        self.start + self.capacity - self.end
+    }
+
     // The first bytes of the free part join the draft.
     pub fn extend_draft(&mut self, n: usize)
         requires { n ≤ length self.old.free }
         ensures { self.new ≡ with_draft self.old n }
     {
         self.end += n;
+    }
+
+    // These bytes are copied behind what is held, or dropped.
+    pub fn commit(&mut self, bytes: &[u8], dropped: bool)
+        requires no_draft { self.old.draft ≡ [] }
+        requires room { length bytes.now ≤ length self.old.free }
+        ensures { self.new ≡ with_committed dropped bytes.now self.old }
+    {
+        if dropped {
+            return;
+        }
+        copy_to_front(self.free_mut(), bytes);
+        self.extend_draft(bytes.len());
+        self.settle_draft(false);
     }
 
     // The length of the draft.
@@ -125,4 +146,12 @@ impl Buffer {
         let held = self.committed - self.start;
         self.release(held);
     }
+}
+
+// Copies these bytes over the front of the room.
+fn copy_to_front(room: &mut [u8], bytes: &[u8])
+    requires { length bytes.now ≤ length room.old }
+    ensures { room.new ≡ bytes.now ++ drop (length bytes.now) room.old }
+{
+    room[..bytes.len()].copy_from_slice(bytes);
 }

@@ -1,6 +1,6 @@
 //! A pipe's marks and flags, and what each call answers by them.
 
-ghost use Rattle.std.specs.Prelude.{◌≡◌, ◌+◌, ◌^◌, ◌<◌, ◌↔◌, ℕ, List, [], length, is_some, Some, IsSome, IsNone, IsErr, IfErr, IfOk, OnErr};
+ghost use Rattle.std.specs.Prelude.{◌≡◌, ◌+◌, ◌^◌, ◌<◌, ◌≤◌, ◌↔◌, ℕ, List, [], length, is_some, Some, IsSome, IsNone, IsErr, IfErr, IfOk, OnErr};
 ghost use Rattle.pipe_core.specs.History.{Run, Commit, EndWriter, Read, Advance, EndReader, CancelRead, CancelFlush, bytes_of};
 ghost use Rattle.pipe_core.specs.Answers.{Flushed, Gave, Woke};
 ghost use Rattle.pipe_core.specs.Standing.{StandsFor, AreThresholds, MayAdvance, Answers};
@@ -70,6 +70,7 @@ impl Control {
         ensures unchanged { OnErr result (self.new ≡ self.old) }
         ensures answers { IfOk result (λ answer. (runs : List Run) → length (bytes_of runs) ≡ n →
             Answers self.old (Commit runs) (Flushed answer.0 answer.1) self.new) }
+        ensures committed { self.new.committed ≤ self.old.committed + n }
 
         // Whether an end has completed, and what is lent, stays with either outcome.
         ensures ended { self.new.ended ≡ self.old.ended }
@@ -102,7 +103,8 @@ impl Control {
     pub fn read(&mut self) -> (ReadReply, Wake)
         requires attended { IsNone self.old.gone }
         requires no_lend { IsNone self.old.lent }
-        ensures { Answers self.old Read (Gave result.0 result.1) self.new }
+        ensures answers { Answers self.old Read (Gave result.0 result.1) self.new }
+        ensures committed { self.new.committed ≡ self.old.committed }
     {
         let before = self.marks;
         let ready = before.reads_now();
@@ -128,7 +130,8 @@ impl Control {
     /// `PipeReader.AdvanceTo(consumed, examined)` does. An examined mark never goes back.
     pub fn advance(&mut self, c: u64, e: u64) -> Wake
         requires { MayAdvance self.old.lent c e }
-        ensures { Answers self.old (Advance c e) (Woke result) self.new }
+        ensures answers { Answers self.old (Advance c e) (Woke result) self.new }
+        ensures committed { self.new.committed ≡ self.old.committed }
     {
         let before = self.marks;
         let examined = before.examined.max(before.consumed + e);
@@ -147,7 +150,8 @@ impl Control {
     /// Completes the writer, as `PipeWriter.Complete` does, with a code: 0 for success. What is committed stays readable.
     pub fn end_writer(&mut self, code: u32) -> Wake
         requires { IsNone self.old.ended }
-        ensures { Answers self.old (EndWriter code) (Woke result) self.new }
+        ensures answers { Answers self.old (EndWriter code) (Woke result) self.new }
+        ensures committed { self.new.committed ≡ self.old.committed }
     {
         let before = self.marks;
         let after = Marks {
@@ -162,7 +166,8 @@ impl Control {
     /// Completes the reader, as `PipeReader.Complete` does, with a code: 0 for success. A lend and a pause end by it.
     pub fn end_reader(&mut self, code: u32) -> Wake
         requires { IsNone self.old.gone }
-        ensures { Answers self.old (EndReader code) (Woke result) self.new }
+        ensures answers { Answers self.old (EndReader code) (Woke result) self.new }
+        ensures committed { self.new.committed ≡ self.old.committed }
     {
         let before = self.marks;
         let after = Marks {
@@ -200,6 +205,20 @@ impl Control {
         };
         self.marks = after;
         after.woken_since(&before)
+    }
+
+    // The total.
+    pub(crate) fn committed(&self) -> u64
+        ensures { result ≡ self.now.committed }
+    {
+        self.marks.committed
+    }
+
+    // How many bytes the reader has given up.
+    pub(crate) fn consumed(&self) -> u64
+        ensures { result ≡ self.now.consumed }
+    {
+        self.marks.consumed
     }
 
     // Whether the reader has completed.

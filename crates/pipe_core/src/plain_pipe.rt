@@ -1,6 +1,6 @@
 //! A pipe over one buffer, for one thread.
 
-ghost use Rattle.std.specs.Prelude.{◌≡◌, ◌+◌, ◌^◌, ◌<◌, ◌≤◌, ◌↔◌, ℕ, List, [], length, IsNone, IsSome, Some, IsErr, IfErr, IfOk, OnErr, OnOk};
+ghost use Rattle.std.specs.Prelude.{◌≡◌, ◌+◌, ◌^◌, ◌<◌, ◌≤◌, ◌↔◌, ℕ, List, [], length, IsNone, IsSome, Some, IsErr, IsOk, IfErr, IfOk, OnErr, OnOk};
 ghost use Rattle.std.specs.Borrow.{sem};
 ghost use Rattle.pipe_core.specs.History.{Call, Commit, Read, Advance, EndReader, CancelRead, CancelFlush};
 ghost use Rattle.pipe_core.specs.Lends.{lend};
@@ -72,6 +72,34 @@ impl PlainPipe {
         self.buffer.capacity()
     }
 
+    /// How long the free part is, in bytes.
+    pub fn room(&self) -> usize
+        ensures { result ≡ length self.now.bytes.free }
+    {
+        self.buffer.free_len()
+    }
+
+    /// How many bytes are committed and not consumed: none once the reader has completed.
+    pub fn held_len(&self) -> usize
+        ensures { result ≡ length self.now.bytes.held }
+    {
+        self.buffer.held().len()
+    }
+
+    /// The total: how many bytes were committed before the reader completed.
+    pub fn committed(&self) -> u64
+        ensures { result ≡ self.now.control.committed }
+    {
+        self.control.committed()
+    }
+
+    /// How many bytes the reader has consumed.
+    pub fn consumed(&self) -> u64
+        ensures { result ≡ self.now.control.consumed }
+    {
+        self.control.consumed()
+    }
+
     /// The free part behind the draft, as `PipeWriter.GetMemory` gives it, all of it in one piece. Its length is always the
     /// capacity less the draft, and less what is committed and not consumed. What was written to it stays there until
     /// the next `advance`, `end_reader`, `flush` or `end_writer`.
@@ -101,6 +129,7 @@ impl PlainPipe {
         ensures answers { IfOk result (λ answer.
             PipeAnswers self.old (Commit (runs_of self.old.bytes.draft)) (Flushed answer.0 answer.1) self.new) }
         ensures draft { OnOk result (self.new.bytes.draft ≡ []) }
+        ensures committed { self.new.control.committed ≤ self.old.control.committed + length self.old.bytes.draft }
 
         // Whether an end has completed, and what is lent, stays with either outcome.
         ensures ended { self.new.control.ended ≡ self.old.control.ended }
@@ -119,6 +148,7 @@ impl PlainPipe {
         requires no_lend { IsNone self.old.control.lent }
         ensures answers { PipeAnswers self.old Read (Gave result.0 result.1) self.new }
         ensures bytes { self.new.bytes ≡ self.old.bytes }
+        ensures committed { self.new.control.committed ≡ self.old.control.committed }
     {
         self.control.read()
     }
@@ -128,6 +158,7 @@ impl PlainPipe {
         requires { IsSome self.now.control.lent }
         ensures bytes { (h : List Call) → HoldsFor self.now h → lend h ≡ Some result.now }
         ensures len { self.now.control.lent ≡ Some (length result.now) }
+        ensures within { length result.now ≤ length self.now.bytes.held }
     {
         let len = self.control.lent_len() as usize;
         &self.buffer.held()[..len]
@@ -139,10 +170,52 @@ impl PlainPipe {
         requires { MayAdvance self.old.control.lent c e }
         ensures answers { PipeAnswers self.old (Advance c e) (Woke result) self.new }
         ensures draft { self.new.bytes.draft ≡ self.old.bytes.draft }
+        ensures committed { self.new.control.committed ≡ self.old.control.committed }
     {
         let wake = self.control.advance(c, e);
         self.buffer.release(c as usize);
         wake
+    }
+
+    /// Copies these bytes behind what is committed and commits them, as `PipeWriter.WriteAsync` does, where nothing is
+    /// drafted. It answers as `flush` does. Once the reader has completed the bytes are dropped, and not copied.
+    pub fn write(&mut self, bytes: &[u8]) -> Result<(FlushReply, Wake), TooMuch>
+        requires open { IsNone self.old.control.ended }
+        requires no_draft { self.old.bytes.draft ≡ [] }
+        requires room { length bytes.now ≤ length self.old.bytes.free }
+        ensures too_much { IsErr result ↔
+            (IsNone self.old.control.gone × 2 ^ 62 < self.old.control.committed + length bytes.now) }
+        ensures told_total { IfErr result (λ refused. refused.total ≡ self.old.control.committed) }
+        ensures unchanged { OnErr result (self.new ≡ self.old) }
+        ensures answers { IfOk result (λ answer.
+            PipeAnswers self.old (Commit (runs_of bytes.now)) (Flushed answer.0 answer.1) self.new) }
+        ensures draft { self.new.bytes.draft ≡ [] }
+    {
+        let dropped = self.control.is_reader_gone();
+        let answer = self.control.commit(bytes.len() as u64)?;
+        self.buffer.commit(bytes, dropped);
+        Ok(answer)
+    }
+
+    /// Commits these bytes as `write` does, if there are any, and completes the writer with a code. After TooMuch the pipe
+    /// is as it was: neither committed nor completed.
+    pub fn write_last(&mut self, bytes: &[u8], code: u32) -> Result<Wake, TooMuch>
+        requires open { IsNone self.old.control.ended }
+        requires no_draft { self.old.bytes.draft ≡ [] }
+        requires room { length bytes.now ≤ length self.old.bytes.free }
+        ensures too_much { IsErr result ↔
+            (IsNone self.old.control.gone × 2 ^ 62 < self.old.control.committed + length bytes.now) }
+        ensures told_total { IfErr result (λ refused. refused.total ≡ self.old.control.committed) }
+        ensures unchanged { OnErr result (self.new ≡ self.old) }
+        ensures answers { IfOk result (λ wake. PipeCloses self.old (closing bytes.now code) wake self.new) }
+        ensures draft { self.new.bytes.draft ≡ [] }
+    {
+        if bytes.len() == 0 {
+            return Ok(self.control.end_writer(code));
+        }
+        let (_, first) = self.write(bytes)?;
+        let second = self.control.end_writer(code);
+        Ok(second.or(first))
     }
 
     /// Commits the draft, if there is one, and completes the writer with a code, as `PipeWriter.Complete` does. After
@@ -153,8 +226,10 @@ impl PlainPipe {
             (IsNone self.old.control.gone × 2 ^ 62 < self.old.control.committed + length self.old.bytes.draft) }
         ensures told_total { IfErr result (λ refused. refused.total ≡ self.old.control.committed) }
         ensures unchanged { OnErr result (self.new ≡ self.old) }
+        ensures nothing_drafted { self.old.bytes.draft ≡ [] → IsOk result }
         ensures answers { IfOk result (λ wake. PipeCloses self.old (closing self.old.bytes.draft code) wake self.new) }
         ensures draft { OnOk result (self.new.bytes.draft ≡ []) }
+        ensures committed { self.new.control.committed ≤ self.old.control.committed + length self.old.bytes.draft }
     {
         if self.buffer.draft_len() == 0 {
             return Ok(self.control.end_writer(code));
@@ -169,6 +244,7 @@ impl PlainPipe {
         requires { IsNone self.old.control.gone }
         ensures answers { PipeAnswers self.old (EndReader code) (Woke result) self.new }
         ensures draft { self.new.bytes.draft ≡ self.old.bytes.draft }
+        ensures committed { self.new.control.committed ≡ self.old.control.committed }
     {
         self.buffer.release_all();
         self.control.end_reader(code)

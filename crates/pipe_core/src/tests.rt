@@ -194,3 +194,17 @@ fn a_pipe_is_canceled_and_left(rt: HostRuntime) -> Result<(), AllocError> {
     assert_eq!(rt; pipe.spare_mut().len(), 8);
     Ok(())
 }
+
+#[test]
+fn a_pipe_takes_bytes_that_were_not_drafted(rt: HostRuntime) -> Result<(), AllocError> {
+    let counts = |pipe: &PlainPipe| (pipe.held_len(), pipe.committed(), pipe.consumed());
+    let mut pipe = PlainPipe::make(rt.alloc(), 8, 0, 1)?;
+    assert_eq!(rt; pipe.write(b"abc"), Ok((FLUSHED, NOBODY)));
+    assert_eq!(rt; counts(&pipe), (3, 3, 0));
+    assert_eq!(rt; use_up_bytes(&mut pipe, b"abc", 1, 3), Some(NOBODY));
+    assert_eq!(rt; counts(&pipe), (2, 3, 1));
+    let mut last = PlainPipe::make(rt.alloc(), 8, 0, 1)?;
+    assert_eq!(rt; last.write_last(b"ab", 7), Ok(NOBODY));
+    assert_eq!(rt; counts(&last), (2, 2, 0));
+    Ok(())
+}

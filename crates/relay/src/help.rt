@@ -5,7 +5,7 @@ pub const VERSION: &str = "relay 0.1.0\n";
 pub const HELP: &str = "\
 relay translates framed byte streams.
 
-usage: relay copy IN OUT [max=BYTES]
+usage: relay copy IN OUT [KEY=BYTES ..]
 
 Reads frames from standard input, and writes their payloads to standard output as frames of another kind.
 
@@ -14,8 +14,12 @@ IN and OUT
   len2    the payload's length in 2 bytes, most significant first, and then the payload
   line    the payload, which has no line feed, and then a line feed; the last line of an input may lack it
 
-keys
-  max=BYTES    the greatest payload, 0 to 16777216; 65536 where it isn't given
+keys, in any order, each at most once
+  max=BYTES       the greatest payload, 0 to 16777216; 65536 where it isn't given
+  seg=BYTES       the size of a segment of the pipe, 64 to 65536; 4096 where it isn't given
+  pause=BYTES     the pipe's pause threshold, 0, for never, to 16777216; 65536 where it isn't given
+  resume=BYTES    the pipe's resume threshold, 1 to 16777216, and at most the pause threshold where that isn't 0;
+                  where it isn't given, 32768, or the pause threshold where that is less and not 0
 
 status, with a line on standard error where it isn't 0
   0  all of the input was relayed

@@ -28,6 +28,10 @@ usage_line word = codes "usage: word " ++ decimal word ++ 10 ∷ []
 abbrev pub memory_line : List ℕ
 memory_line = codes "out of memory\n"
 
+-- The line for a device that couldn't be opened, which this word names.
+abbrev pub door_line : ℕ → List ℕ
+door_line word = codes "door fault at word " ++ decimal word ++ 10 ∷ []
+
 -- A line was written, or a front of it where a write failed.
 abbrev pub IsWritten : List ℕ → SinkState → SinkState → Type 0
 IsWritten line before after = Takes before line after ⊎ ((count : ℕ) × TakesFront before line count after)

@@ -8,9 +8,9 @@ use Rattle.frame_model.specs.declared.ending.FillEnd.{FillEnd}
 use Rattle.frame_model.specs.declared.ending.FillEnd.TheVariants as taking
 use Rattle.frame_model.specs.declared.ending.Outcome.{Outcome}
 use Rattle.frame_model.specs.declared.ending.Report.{Report}
-use Rattle.frame_model.specs.Cut.{End}
-use Rattle.frame_model.specs.Translation.{Translation, translation}
-use Rattle.frame_model.specs.Ending.{is_at_end, outcome_of, status_of}
+use Rattle.frame_model.specs.Cut.{End, cut}
+use Rattle.frame_model.specs.Translation.{Translation, spellable, translation}
+use Rattle.frame_model.specs.Ending.{frames_written, is_at_end, outcome_of, status_of}
 use Rattle.relay_model.specs.Lines.{line_of, IsWritten}
 
 -- What was taken from the source and how that ended, what was written to the sink, and whether a write or a flush failed.
@@ -26,6 +26,17 @@ translated job run = translation job run.taken (is_at_end run.ending)
 
 abbrev pub outcome : Job → Run → Outcome
 outcome job run = outcome_of run.write_failed run.ending (translated job run).verdict
+
+-- The payloads of an input that are to be written: those before the first that the output can't spell.
+abbrev pub payloads_of : Job → List ℕ → Bool → List (List ℕ)
+payloads_of job x at_end = spellable job.output (cut job.input job.max x at_end).payloads
+
+-- How many of their frames are whole in what was written.
+abbrev pub frames_in : Job → List ℕ → Bool → List ℕ → ℕ
+frames_in job x at_end written = let payloads = payloads_of job x at_end in frames_written job.output payloads written (length payloads)
+
+abbrev pub frames : Job → Run → ℕ
+frames job run = frames_in job run.taken (is_at_end run.ending) run.written
 
 -- One byte past the limit is read and dropped.
 abbrev pub IsDropped : FillEnd → List ℕ → Type 0
@@ -69,6 +80,7 @@ pub record IsReported (job : Job) (report : Report) (source_before source_after 
   pub run : Run
   pub is_run : IsRun job run source_before source_after sink_before sink_after
   pub ended : report.outcome ≡ outcome job run
+  pub frames : report.frames ≡ frames job run
   pub taken : report.taken ≡ length run.taken
   pub written : report.written ≡ length run.written
 

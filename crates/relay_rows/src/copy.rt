@@ -79,6 +79,13 @@ fn frames_come_out_in_the_other_framing(rt: HostRuntime) -> Result<(), Fail> {
             ..plain(LEN4_LINE, TWO_FRAMES, b"hi\na\n", 0, b"")
         },
         plain(
+            &["copy", "len4", "line", "resume=1", "seg=64", "pause=1"],
+            TWO_FRAMES,
+            b"hi\na\n",
+            0,
+            b"",
+        ),
+        plain(
             &["copy", "line", "len2"],
             b"a\r\nb",
             &[0, 2, b'a', b'\r', 0, 1, b'b'],

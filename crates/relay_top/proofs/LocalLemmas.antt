@@ -4,7 +4,7 @@ use Rattle.edge_core.specs.Device.{SourceState, SinkState}
 use Rattle.frame_model.specs.declared.job.Job.{Job}
 use Rattle.frame_model.specs.Ending.{status_of}
 use Rattle.relay_model.specs.Lines.{IsWritten, memory_line}
-use Rattle.relay_model.specs.Run.{HasCause, IsComplete, IsRun, RelaysAll, Run, TranslatesAll, outcome}
+use Rattle.relay_model.specs.Run.{HasCause, IsRun, RelaysAll, Run, outcome}
 use Rattle.relay_top.specs.Local.{Copies}
 
 -- a law of runs, at the run that a relay made

@@ -2,18 +2,15 @@
 
 ghost use Rattle.std.specs.Prelude.{◌≡◌, ◌≢◌, ◌↔◌, ◌⊎◌, IsErr, IfErr, IfOk};
 ghost use Rattle.frame_model.specs.Job.{IsInRange};
-ghost use Rattle.frame_model.specs.Ending.{status_of as status_of_outcome};
 ghost use Rattle.relay_model.specs.Lines.{IsWritten, memory_line, usage_line};
 ghost use Rattle.relay_model.specs.Run.{HasCause, IsComplete, IsRelayed, RelaysAll, TranslatesAll};
 ghost use Rattle.relay_words.specs.Words.{command_of, job_of, texts};
+ghost use Rattle.relay_engine.specs.Tell.{told_line};
 ghost use Rattle.relay_top.specs.Local.{Copies};
 
-use crate::intake::Intake;
-use crate::relay::relay;
-use crate::tell::{Told, tell};
 use edge_core::{Sink, Source};
-use frame_grammar::{Job, segments_of};
-use frame_model::Outcome;
+use frame_grammar::Job;
+use relay_engine::{Told, pump_local, status_of, tell};
 use relay_model::{causes_of_statuses, complete_where_lawful, translates_all, whole_on_status_0};
 use relay_words::{Command, read_words};
 use std::alloc::Global;
@@ -75,7 +72,7 @@ pub fn relay_local<S: Source, K: Sink, E: Sink>(
     match read_words(words) {
         Ok(command) => run(alloc, command, source, sink, faults),
         Err(usage) => {
-            tell(faults, Told::Usage { word: usage.word });
+            report_on(faults, Told::Usage { word: usage.word });
             USAGE
         }
     }
@@ -107,24 +104,19 @@ fn copy<S: Source, K: Sink, E: Sink>(
     requires { IsInRange job.now }
     ensures { Copies job.now result (S.state source.old) (S.state source.new) (K.state sink.old) (K.state sink.new) (E.state faults.old) (E.state faults.new) }
 {
-    let Ok(mut intake) = Intake::make(alloc, segments_of(job) * job.seg) else {
-        tell(faults, Told::Memory);
+    let Ok(report) = pump_local(alloc, source, sink, job) else {
+        report_on(faults, Told::Memory);
         return OUT_OF_MEMORY;
     };
-    let report = relay(job, source, sink, &mut intake);
-    tell(faults, Told::Relay { report });
+    report_on(faults, Told::Relay { report });
     status_of(report.outcome)
 }
 
-fn status_of(outcome: Outcome) -> u8
-    ensures { result ≡ status_of_outcome outcome }
+/// Writes the line, as far as no write fails: a failure of `faults` changes nothing.
+fn report_on<E: Sink>(faults: &mut E, told: Told)
+    ensures { IsWritten (told_line told) (E.state faults.old) (E.state faults.new) }
 {
-    match outcome {
-        Outcome::Clean => 0,
-        Outcome::BadFrame { .. } => 2,
-        Outcome::Truncated { .. } => 3,
-        Outcome::ReadFault => 4,
-        Outcome::WriteFault => 5,
-        Outcome::TooLong => 7,
-    }
+    let Ok(()) = tell(faults, told) else {
+        return;
+    };
 }

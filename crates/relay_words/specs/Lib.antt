@@ -1,2 +1,4 @@
+pub mod Cases
+pub mod Keys
 pub mod Numbers
 pub mod Words

@@ -1,10 +1,10 @@
 //! Worked cases of the definitions, computed by the check. These functions do nothing.
 
-ghost use Rattle.std.specs.Prelude.{◌≡◌, ◌∷◌, [], ◌^◌, codes, Some, None, Ok, Err};
+ghost use Rattle.std.specs.Prelude.{◌≡◌, ◌∷◌, [], codes, Some, None, Err};
+ghost use Rattle.relay_words.specs.Cases.{line_job};
 ghost use Rattle.relay_words.specs.Numbers.{number_of};
 ghost use Rattle.relay_words.specs.Words.{command_of};
 
-use crate::command::Command;
 use frame_grammar::Framing;
 
 /// Words that are numbers, and words that are none.
@@ -29,22 +29,17 @@ pub fn word_cases()
     ensures another_word { command_of (codes "copy" ∷ codes "line" ∷ codes "len4" ∷ codes "x" ∷ []) ≡ Err 3 }
     ensures another_case { command_of (codes "Copy" ∷ codes "line" ∷ codes "len4" ∷ []) ≡ Err 0 }
     ensures too_great { command_of (codes "copy" ∷ codes "line" ∷ codes "len4" ∷ codes "max=16777217" ∷ []) ≡ Err 3 }
-    ensures plain { command_of (codes "copy" ∷ codes "line" ∷ codes "len2" ∷ []) ≡ Ok (Command.Copy (record {
-      input = Framing.Line;
-      output = Framing.Len2;
-      max = 65536;
-      seg = 4096;
-      pause = 65536;
-      resume = 32768;
-      limit = 2 ^ 40;
-    })) }
-    ensures no_payload { command_of (codes "copy" ∷ codes "line" ∷ codes "len4" ∷ codes "max=0" ∷ []) ≡ Ok (Command.Copy (record {
-      input = Framing.Line;
-      output = Framing.Len4;
-      max = 0;
-      seg = 4096;
-      pause = 65536;
-      resume = 32768;
-      limit = 2 ^ 40;
-    })) }
+    ensures key_twice { command_of (codes "copy" ∷ codes "line" ∷ codes "len4" ∷ codes "seg=64" ∷ codes "seg=65" ∷ []) ≡ Err 4 }
+    ensures small_segment { command_of (codes "copy" ∷ codes "line" ∷ codes "len4" ∷ codes "seg=63" ∷ []) ≡ Err 3 }
+    ensures no_resume { command_of (codes "copy" ∷ codes "line" ∷ codes "len4" ∷ codes "pause=0" ∷ codes "resume=0" ∷ []) ≡ Err 4 }
+    ensures above_usual_pause { command_of (codes "copy" ∷ codes "line" ∷ codes "len4" ∷ codes "resume=70000" ∷ []) ≡ Err 3 }
+    ensures above_pause { command_of (codes "copy" ∷ codes "line" ∷ codes "line" ∷ codes "resume=9" ∷ codes "pause=8" ∷ []) ≡ Err 3 }
+    ensures above_pause_and_unread { command_of (codes "copy" ∷ codes "line" ∷ codes "line" ∷ codes "resume=9" ∷ codes "pause=8" ∷ codes "x" ∷ []) ≡ Err 5 }
+    ensures plain { command_of (codes "copy" ∷ codes "line" ∷ codes "len2" ∷ []) ≡ line_job Framing.Len2 65536 4096 65536 32768 }
+    ensures no_payload { command_of (codes "copy" ∷ codes "line" ∷ codes "len4" ∷ codes "seg=64" ∷ codes "max=0" ∷ []) ≡ line_job Framing.Len4 0 64 65536 32768 }
+    ensures below_usual_resume { command_of (codes "copy" ∷ codes "line" ∷ codes "len4" ∷ codes "pause=100" ∷ []) ≡ line_job Framing.Len4 65536 4096 100 100 }
+    ensures above_usual_resume { command_of (codes "copy" ∷ codes "line" ∷ codes "len4" ∷ codes "pause=40000" ∷ []) ≡ line_job Framing.Len4 65536 4096 40000 32768 }
+    ensures never_pauses { command_of (codes "copy" ∷ codes "line" ∷ codes "len4" ∷ codes "pause=0" ∷ []) ≡ line_job Framing.Len4 65536 4096 0 32768 }
+    ensures never_resumes { command_of (codes "copy" ∷ codes "line" ∷ codes "len4" ∷ codes "pause=0" ∷ codes "resume=70000" ∷ []) ≡ line_job Framing.Len4 65536 4096 0 70000 }
+    ensures all_keys { command_of (codes "copy" ∷ codes "line" ∷ codes "len4" ∷ codes "resume=7" ∷ codes "seg=65536" ∷ codes "pause=7" ∷ codes "max=9" ∷ []) ≡ line_job Framing.Len4 9 65536 7 7 }
 {}

@@ -11,7 +11,7 @@ pub enum Command {
 }
 
 /// Words that are no command. `word` is the index, from 0, of the first one that can't be read where it stands, or the
-/// number of words where one is missing.
+/// number of words where one is missing. Where there is neither, it is the index of a `resume` above the pause threshold.
 #[derive(Clone, Copy, Debug, PartialEq, Eq, Error)]
 #[error("usage: word {word}")]
 pub struct Usage {

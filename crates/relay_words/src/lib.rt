@@ -3,6 +3,7 @@
 
 mod cases;
 mod command;
+mod keys;
 mod number;
 #[cfg(test)]
 mod tests;

@@ -14,47 +14,102 @@ fn read(alloc: Global, texts: &[&str]) -> Result<Result<Command, Usage>, AllocEr
     Ok(read_words(words.as_slice()))
 }
 
-fn copy(input: Framing, output: Framing, max: u64) -> Command {
-    Command::Copy {
-        job: Job {
-            input,
-            output,
-            max,
-            seg: 4_096,
-            pause: 65_536,
-            resume: 32_768,
-            limit: 1 << 40,
-        },
+fn job(input: Framing, output: Framing) -> Job {
+    Job {
+        input,
+        output,
+        max: 65_536,
+        seg: 4_096,
+        pause: 65_536,
+        resume: 32_768,
+        limit: 1 << 40,
     }
 }
 
 #[test]
 fn words_of_a_command(rt: HostRuntime) -> Result<(), Fail> {
     let alloc = rt.alloc();
-    let cases: [(&[&str], Command); 5] = [
-        (
-            &["copy", "line", "len2"],
-            copy(Framing::Line, Framing::Len2, 65_536),
-        ),
+    let usual = job(Framing::Line, Framing::Len4);
+    let cases: [(&[&str], Job); 11] = [
+        (&["copy", "line", "len2"], job(Framing::Line, Framing::Len2)),
         (
             &["copy", "len4", "line", "max=0"],
-            copy(Framing::Len4, Framing::Line, 0),
+            Job {
+                max: 0,
+                ..job(Framing::Len4, Framing::Line)
+            },
         ),
         (
-            &["copy", "len2", "len2", "max=1"],
-            copy(Framing::Len2, Framing::Len2, 1),
+            &["copy", "len2", "len2", "max=16777216"],
+            Job {
+                max: 16_777_216,
+                ..job(Framing::Len2, Framing::Len2)
+            },
         ),
         (
-            &["copy", "len2", "len4", "max=16777216"],
-            copy(Framing::Len2, Framing::Len4, 16_777_216),
+            &["copy", "line", "len4", "seg=64", "max=0"],
+            Job {
+                max: 0,
+                seg: 64,
+                ..usual
+            },
         ),
         (
-            &["copy", "line", "line", "max=65536"],
-            copy(Framing::Line, Framing::Line, 65_536),
+            &["copy", "line", "len4", "seg=65536"],
+            Job {
+                seg: 65_536,
+                ..usual
+            },
+        ),
+        (
+            &["copy", "line", "len4", "pause=100"],
+            Job {
+                pause: 100,
+                resume: 100,
+                ..usual
+            },
+        ),
+        (
+            &["copy", "line", "len4", "pause=40000"],
+            Job {
+                pause: 40_000,
+                ..usual
+            },
+        ),
+        (
+            &["copy", "line", "len4", "pause=0"],
+            Job { pause: 0, ..usual },
+        ),
+        (
+            &["copy", "line", "len4", "pause=0", "resume=70000"],
+            Job {
+                pause: 0,
+                resume: 70_000,
+                ..usual
+            },
+        ),
+        (
+            &["copy", "line", "len4", "resume=65536"],
+            Job {
+                resume: 65_536,
+                ..usual
+            },
+        ),
+        (
+            &[
+                "copy", "line", "len4", "resume=7", "seg=65", "pause=8", "max=9",
+            ],
+            Job {
+                max: 9,
+                seg: 65,
+                pause: 8,
+                resume: 7,
+                ..usual
+            },
         ),
     ];
-    for (words, command) in cases {
-        assert_eq!(rt; read(alloc, words)?, Ok(command));
+    for (words, job) in cases {
+        assert_eq!(rt; read(alloc, words)?, Ok(Command::Copy { job }));
     }
     Ok(())
 }
@@ -62,7 +117,7 @@ fn words_of_a_command(rt: HostRuntime) -> Result<(), Fail> {
 #[test]
 fn words_of_no_command(rt: HostRuntime) -> Result<(), Fail> {
     let alloc = rt.alloc();
-    let cases: [(&[&str], usize); 19] = [
+    let cases: [(&[&str], usize); 30] = [
         (&[], 0),
         (&["Copy", "line", "len4"], 0),
         (&["copy "], 0),
@@ -79,7 +134,18 @@ fn words_of_no_command(rt: HostRuntime) -> Result<(), Fail> {
         (&["copy", "len4", "line", "max=+1"], 3),
         (&["copy", "len4", "line", "max=16777217"], 3),
         (&["copy", "len4", "line", "max=18446744073709551617"], 3),
-        (&["copy", "len4", "line", "seg=64"], 3),
+        (&["copy", "line", "len4", "seg=63"], 3),
+        (&["copy", "line", "len4", "seg=65537"], 3),
+        (&["copy", "line", "len4", "Seg=64"], 3),
+        (&["copy", "line", "len4", "pause=16777217"], 3),
+        (&["copy", "line", "len4", "pause=0", "resume=0"], 4),
+        (&["copy", "line", "len4", "resume=16777217", "pause=0"], 3),
+        (&["copy", "line", "len4", "resume=70000"], 3),
+        (&["copy", "line", "line", "resume=9", "pause=8"], 3),
+        (&["copy", "line", "line", "pause=8", "resume=9"], 4),
+        (&["copy", "line", "line", "resume=9", "pause=8", "x"], 5),
+        (&["copy", "line", "len4", "seg=64", "seg=65"], 4),
+        (&["copy", "line", "len4", "max=1", "seg=64", "max=1"], 5),
         (&["copy", "line", "len4", "max=1", "max=1"], 4),
         (&["copy", "line", "len4", "max=1", "max=01"], 4),
     ];

@@ -1,18 +1,25 @@
 //! Reading the words of a command.
 
-ghost use Rattle.std.specs.Prelude.{◌≡◌, IfErr, IfOk, IfSome, Ok, Err, ◌^◌, ◌≤◌};
+ghost use Rattle.std.specs.Prelude.{◌≡◌, IfErr, IfOk, Ok, Err};
 ghost use Rattle.frame_model.specs.Job.{IsInRange};
-ghost use Rattle.relay_words.specs.Words.{command_of, framing_of, job_of, max_of, texts};
+ghost use Rattle.relay_words.specs.Keys.{above, number_or as number_or_of, usual_resume as usual_resume_of};
+ghost use Rattle.relay_words.specs.Words.{command_of, framing_of, job_of, job_with, texts};
 
 use crate::command::{Command, Usage};
-use crate::number::read_number;
+use crate::keys::{Given, Keys, keys_in};
 use frame_grammar::{Framing, Job};
 
 /// The greatest payload where no key says it, in bytes.
 const USUAL_MAX: u64 = 65_536;
 
-/// The greatest payload that a key can ask for, in bytes.
-const GREATEST_MAX: u64 = 16_777_216;
+/// The size of a segment where no key says it, in bytes.
+const USUAL_SEG: u64 = 4_096;
+
+/// The pause threshold where no key says it, in bytes.
+const USUAL_PAUSE: u64 = 65_536;
+
+/// The resume threshold where no key says it and the pause threshold isn't below it, in bytes.
+const USUAL_RESUME: u64 = 32_768;
 
 /// Reads the words of a command, without the program's name. It takes no memory.
 pub fn read_words(words: &[String]) -> Result<Command, Usage>
@@ -28,41 +35,29 @@ pub fn read_words(words: &[String]) -> Result<Command, Usage>
 
 /// The command, or the index of the word that can't be read.
 fn command_in(words: &[String]) -> Result<Command, usize>
-    ensures read { result ≡ command_of (texts words.now) }
-    ensures in_range { IfOk result (λ command. IsInRange (job_of command)) }
+    ensures { result ≡ command_of (texts words.now) }
 {
-    let Some((command, words)) = words.split_first() else {
+    let Some((command, rest)) = words.split_first() else {
         return Err(0);
     };
     if command.as_str() != "copy" {
         return Err(0);
     }
-    let Some((input, words)) = words.split_first() else {
+    let Some((input, rest)) = rest.split_first() else {
         return Err(1);
     };
     let Some(input) = framing(input.as_str()) else {
         return Err(1);
     };
-    let Some((output, words)) = words.split_first() else {
+    let Some((output, keys)) = rest.split_first() else {
         return Err(2);
     };
     let Some(output) = framing(output.as_str()) else {
         return Err(2);
     };
-    let max = match words.split_first() {
-        None => USUAL_MAX,
-        Some((key, words)) => {
-            let Some(max) = max(key.as_str()) else {
-                return Err(3);
-            };
-            match words.split_first() {
-                None => max,
-                Some(_) => return Err(4),
-            }
-        }
-    };
+    let keys = keys_in(keys, words.len())?;
     Ok(Command::Copy {
-        job: job(input, output, max),
+        job: job(input, output, keys)?,
     })
 }
 
@@ -77,32 +72,51 @@ fn framing(word: &str) -> Option<Framing>
     }
 }
 
-/// The number of a word `max=NUMBER`, where it is in its range.
-fn max(word: &str) -> Option<u64>
-    ensures read { result ≡ max_of word.now }
-    ensures in_range { IfSome result (λ max. max ≤ 16777216) }
+/// The job, with the usual numbers where no key says them, or the index of a resume threshold above the pause threshold.
+fn job(input: Framing, output: Framing, keys: Keys) -> Result<Job, usize>
+    ensures { result ≡ job_with input output keys }
 {
-    let number = read_number(word.strip_prefix("max=")?)?;
-    if number <= GREATEST_MAX {
-        Some(number)
-    } else {
-        None
+    let pause = number_or(USUAL_PAUSE, keys.pause);
+    if let Some(word) = resume_above(pause, keys.resume) {
+        return Err(word);
+    }
+    Ok(Job {
+        input,
+        output,
+        max: number_or(USUAL_MAX, keys.max),
+        seg: number_or(USUAL_SEG, keys.seg) as usize,
+        pause,
+        resume: number_or(usual_resume(pause), keys.resume),
+        limit: 1 << 40,
+    })
+}
+
+fn number_or(usual: u64, key: Option<Given>) -> u64
+    ensures { result ≡ number_or_of usual key }
+{
+    match key {
+        None => usual,
+        Some(given) => given.number,
     }
 }
 
-/// A job with the usual sizes.
-fn job(input: Framing, output: Framing, max: u64) -> Job
-    requires { max ≤ 16777216 }
-    ensures in_range { IsInRange result }
-    ensures fields { result ≡ record { input = input; output = output; max = max; seg = 4096; pause = 65536; resume = 32768; limit = 2 ^ 40 } }
+/// The index of a resume threshold that is given and above the pause threshold.
+fn resume_above(pause: u64, resume: Option<Given>) -> Option<usize>
+    ensures { result ≡ above pause resume }
 {
-    Job {
-        input,
-        output,
-        max,
-        seg: 4_096,
-        pause: 65_536,
-        resume: 32_768,
-        limit: 1 << 40,
+    match resume {
+        Some(resume) if pause != 0 && resume.number > pause => Some(resume.word),
+        _ => None,
+    }
+}
+
+/// The resume threshold where no key says it, in bytes.
+fn usual_resume(pause: u64) -> u64
+    ensures { result ≡ usual_resume_of pause }
+{
+    if pause == 0 {
+        USUAL_RESUME
+    } else {
+        USUAL_RESUME.min(pause)
     }
 }

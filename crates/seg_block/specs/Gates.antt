@@ -27,5 +27,5 @@ pub record Opens (h : Home) (t f : Gate) (k : Known) (none : Run) : Type 0 where
   pub names : (f.names ≡ t.names) × (k.names ≡ t.names)
   pub size : t.names.size ≡ h.size
   pub roles : (t.role ≡ tail) × (f.role ≡ front)
-  pub logs : (t.log ≡ []) × (f.log ≡ [])
+  pub logs : (t.log ≡ []) × (f.log ≡ []) × (k.log ≡ [])
   pub empty : (none.ptr ≡ place h.base 0) × (none.items ≡ [])

@@ -83,6 +83,10 @@ spare t = drop t.drafted t.free.items
 abbrev pub seen : SegFront → List ℕ
 seen f = take f.shown f.gate.log
 
+-- what was published at the commit of the mark that the front acquired last
+abbrev pub acquired : SegFront → List ℕ
+acquired f = f.start.log
+
 -- what was published at the commit that gave the mark
 abbrev pub marked : Mark → List ℕ
 marked m = m.known.log

@@ -46,7 +46,7 @@ const fn words_of(size: usize) -> usize
 }
 
 impl Block {
-    ghost use Rattle.seg_block.specs.Words.{id_of, size_of, IsTailOf, IsFrontOf, published, draft, seen, tail_part, front_part};
+    ghost use Rattle.seg_block.specs.Words.{id_of, size_of, IsTailOf, IsFrontOf, published, draft, seen, acquired, tail_part, front_part};
 
     /// A block of `size` bytes, 1 to 65,536, with the number `id`. The one refusal is for want of memory.
     pub fn make(alloc: Global, id: u64, size: usize) -> Result<Block, AllocError>
@@ -100,7 +100,8 @@ impl Block {
     pub fn part(self) -> (SegTail, SegFront)
         ensures tail { IsTailOf result.0 self }
         ensures front { IsFrontOf result.1 self }
-        ensures nothing { (published result.0 ≡ []) × (draft result.0 ≡ []) × (seen result.1 ≡ []) }
+        ensures nothing { (published result.0 ≡ []) × (draft result.0 ≡ [])
+            × (seen result.1 ≡ []) × (acquired result.1 ≡ []) }
         ensures one_part { front_part result.1 ≡ tail_part result.0 }
     {
         let Block {

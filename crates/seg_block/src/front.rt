@@ -54,7 +54,7 @@ impl Drop for SegFront {
 }
 
 impl SegFront {
-    ghost use Rattle.seg_block.specs.Words.{seen, marked, front_part, mark_part, note_part, SameFront, FrontEnds, IfEarly, IsTheBlock};
+    ghost use Rattle.seg_block.specs.Words.{seen, acquired, marked, front_part, mark_part, note_part, SameFront, FrontEnds, IfEarly, IsTheBlock};
 
     pub(crate) fn start(
         mut gate: Gate,
@@ -67,7 +67,8 @@ impl SegFront {
         requires end { (gate.role ≡ front) × (gate.names.size ≡ size) × IsBlockSize size
             × IsKnownOf gate start × (gate.log ≡ []) }
         requires lies { (none.ptr ≡ place gate.base 0) × (none.items ≡ []) }
-        ensures { (result.gate ≡ gate) × (result.shown ≡ 0) × (result.id ≡ id) × (result.size ≡ size) }
+        ensures { (result.gate ≡ gate) × (result.shown ≡ 0) × (result.start ≡ start)
+            × (result.id ≡ id) × (result.size ≡ size) }
     {
         let kept = gate.house(0, 0, none);
         SegFront {
@@ -85,12 +86,26 @@ impl SegFront {
     pub fn look(&mut self) -> usize
         ensures front { SameFront self.old self.new }
         ensures seen { IsPrefix (seen self.old) (seen self.new) }
+        ensures fresh { IsPrefix (acquired self.old) (seen self.new) }
+        ensures acquired { acquired self.new ≡ acquired self.old }
         ensures value { result ≡ length (seen self.new) }
     {
         let start = self.start.again();
         replace_with(self, start, SegFront::fetched);
         self.shown = self.kept.len();
         self.shown
+    }
+
+    /// From here on each look shows at least what the mark stands for. It does nothing at run time.
+    ///
+    /// The mark that was acquired last counts.
+    pub fn acquire(&mut self, mark: &Mark)
+        requires { mark_part mark.now ≡ front_part self.old }
+        ensures front { SameFront self.old self.new }
+        ensures seen { seen self.new ≡ seen self.old }
+        ensures acquired { acquired self.new ≡ marked mark.now }
+    {
+        self.start = mark.known.again();
     }
 
     /// What the mark stands for is seen too, and nothing that is longer.
@@ -100,6 +115,7 @@ impl SegFront {
         ensures seen { IsPrefix (seen self.old) (seen self.new) }
         ensures mark { IsPrefix (marked mark.now) (seen self.new) }
         ensures longer { length (seen self.new) ≡ max (length (seen self.old)) (length (marked mark.now)) }
+        ensures acquired { acquired self.new ≡ acquired self.old }
     {
         replace_with(self, mark.known.again(), SegFront::fetched);
         self.shown = self.shown.max(mark.len);
@@ -178,6 +194,7 @@ impl SegFront {
         } = self;
         let (found, known) = gate.leave(vacate(kept), known, 2);
         if found % 4 == 0 {
+            gate.let_go();
             return FrontEnd::Early(FrontNote { known });
         }
         let (home, bytes) = gate.close();

@@ -14,8 +14,7 @@ use std::sync::atomic::Ordering::SeqCst;
 use std::sync::atomic::raw;
 use std_alloc::vec::{Lodged, lodge};
 
-// One end of a parting, without its bytes.
-#[derive(Drop)]
+// One end of a parting, without its bytes. It can't be let go of before it has left.
 pub(crate) struct Gate {
     pub(crate) base: *mut u64,
     ghost names: { Names },
@@ -79,6 +78,13 @@ impl Gate {
         let Run {} = run;
         let Known {} = known;
         (found, Known {})
+    }
+
+    // The end that left first has nothing of the block.
+    pub(crate) fn let_go(self)
+        requires { self.role ≡ gone }
+    {
+        let Gate { base: _ } = self;
     }
 
     // The last end has the block again.

@@ -12,8 +12,7 @@ use std::alloc::Global;
 use std::marker::{Model, PhantomData};
 use std_alloc::vec::{Lodged, lodge};
 
-// Room for the watermark of a block of `size` bytes at `base`, and the way back to the allocator.
-#[derive(Drop)]
+// Room for the watermark of a block of `size` bytes at `base`, and the way back to the allocator. It can't be let go of.
 pub(crate) struct Home {
     pub(crate) base: *mut u64,
     ghost size: { ℕ },

@@ -208,6 +208,7 @@ impl SegTail {
         } = self;
         let (found, known) = gate.leave(vacate(free), start, 1);
         if found % 4 == 0 {
+            gate.let_go();
             return TailEnd::Note(TailNote { known });
         }
         let (home, bytes) = gate.close();

@@ -1,4 +1,6 @@
-ghost use Rattle.seg_block.specs.Words.{SameTail};
+ghost use Rattle.std.specs.Prelude.{◌≡◌};
+ghost use mathlib.Core.List.{IsPrefix};
+ghost use Rattle.seg_block.specs.Words.{SameTail, SameFront, tail_part, front_part, published, seen};
 
 use super::*;
 use std::sync::Wait;
@@ -16,6 +18,20 @@ fn append(tail: &mut SegTail, bytes: &[u8])
     if bytes.len() <= tail.room() {
         tail.advance(bytes.len());
     }
+}
+
+// Where both ends are in one hand, a look after a commit shows all that is published.
+fn commit_and_look(tail: &mut SegTail, front: &mut SegFront) -> usize
+    requires { front_part front.old ≡ tail_part tail.old }
+    ensures ends { SameTail tail.old tail.new × SameFront front.old front.new }
+    ensures fresh { IsPrefix (published tail.new) (seen front.new) }
+    ensures covered { IsPrefix (seen front.new) (published tail.new) }
+{
+    let mark = tail.commit();
+    front.acquire(&mark);
+    let len = front.look();
+    tail.covers(front);
+    len
 }
 
 #[test]
@@ -38,7 +54,8 @@ fn a_front_sees_what_is_committed_and_gives_the_block_with_the_note(
     assert_eq!(rt; front.seen(), b"abc".as_slice());
     front.learn(&mark);
     assert_eq!(rt; front.seen(), b"abcd".as_slice());
-    tail.covers(&mut front);
+    append(&mut tail, b"e");
+    assert_eq!(rt; commit_and_look(&mut tail, &mut front), 5);
     match tail.finish() {
         TailEnd::Last(_) => assert!(rt; false),
         TailEnd::Note(note) => {

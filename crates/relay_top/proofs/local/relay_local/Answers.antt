@@ -1,5 +1,4 @@
 -- The laws of a relay, at the run that was made.
-use Rattle.std.proofs.Common.{sym}
 use Rattle.relay_model.specs.Run.{HasCause, IsComplete, TranslatesAll}
 use Rattle.relay_words.specs.Words.{job_of}
 use Rattle.relay_top.proofs.LocalLemmas.{by_law, no_usage, untouched, whole_at, without_memory}

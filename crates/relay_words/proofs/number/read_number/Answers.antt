@@ -1,6 +1,5 @@
 -- What is read is what the digits write.
-use Rattle.std.proofs.Common.{◌≡◌, Option, ℕ, sym, ap, ◌∙◌, refl, subst}
-use Rattle.std.specs.Result.{result_ok}
+use Rattle.std.proofs.Common.{sym, ◌∙◌}
 use Rattle.relay_words.proofs.NumberLemmas.{reads}
 use Rattle.relay_words.proofs.number.read_number.Goals as goal
 

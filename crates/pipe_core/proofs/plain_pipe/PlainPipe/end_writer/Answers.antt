@@ -12,7 +12,7 @@ returns-then-draft_len-eq0-clause-too_much c =
 pub returns-then-draft_len-eq0-clause-answers : goal.returns-then-draft_len-eq0-clause-answers
 returns-then-draft_len-eq0-clause-answers c =
     let p = c.self.inside in
-    rw (← c.self.view_is) (closes_alone (record { control = p.control; bytes = p.buffer }) _ c.args.code _ (sym c.draft_len.ensures ∙ c.if-draft_len-eq0.true) c.end_writer.ensures refl)
+    rw (← c.self.view_is) (closes_alone (record { control = p.control; bytes = p.buffer }) _ p.buffer.draft c.args.code _ (sym c.draft_len.ensures ∙ c.if-draft_len-eq0.true) c.end_writer.ensures.answers refl)
 
 pub returns-clause-answers : goal.returns-clause-answers
 returns-clause-answers c =
@@ -20,5 +20,5 @@ returns-clause-answers c =
     let m = c.self-2.inside in
     let first = rw (← c.self-2.view_is, ← c.self.view_is) at c.in_ok-first.ensures.answers in
     rw (← c.self.view_is, c.or.ensures)
-    (closes_behind (record { control = p.control; bytes = p.buffer }) (record { control = m.control; bytes = m.buffer }) _ c.args.code _ c.in_ok-first.first c.end_writer-second.result
-    (λ e. c.if-draft_len-eq0.false (c.draft_len.ensures ∙ e)) first c.end_writer-second.ensures refl)
+    (closes_behind (record { control = p.control; bytes = p.buffer }) (record { control = m.control; bytes = m.buffer }) _ p.buffer.draft c.args.code _ c.in_ok-first.first c.end_writer-second.result
+    (λ e. c.if-draft_len-eq0.false (c.draft_len.ensures ∙ e)) first c.end_writer-second.ensures.answers refl)

@@ -74,6 +74,6 @@ open_spec 𝓤 𝓛 𝓜 𝓡 wired =
     nothing ! $ use0 𝓛 (‵ (RunData.own_val tt (none ∷ []))) (run_made 𝓛) $ fjoin ! $ move ! (3 ∷ 2 ∷ 1 ∷ 0 ∷ []) $ group ! 4 $
     use1 𝓛 (‵ ((denote.Struct.Tuple.Tuple (Gate.the_row ∷ Gate.the_row ∷ Known.the_row ∷ Run.the_row ∷ [])).own_val (g 0, g 1, k, r) (four_val (one w) (one w) none none ∷ [])))
     (four_made 𝓛 Gate.the_row Gate.the_row Known.the_row Run.the_row (g 0) (g 1) k r (one w) (one w) none none) $
-    let Told : Type 0 = Opens h (g 0) (g 1) k r in let told : Told = record { base = (refl, refl, refl); names = (refl, refl); size = refl; roles = (refl, refl); logs = (refl, refl); empty = (refl, refl) } in
+    let Told : Type 0 = Opens h (g 0) (g 1) k r in let told : Told = record { base = (refl, refl, refl); names = (refl, refl); size = refl; roles = (refl, refl); logs = (refl, refl, refl); empty = (refl, refl) } in
     use0 𝓛 (raw (fact 𝓤 Told)) (fact_i 𝓤 Told (emp 𝓤) told) $ nothing ! $ nothing ! $ fjoin ! $
     returns ! (look_at ! 0 refl) $ free_all ! refl $ keep ! (3 ∷ 0 ∷ 2 ∷ 1 ∷ []) $ by ! (leaves 𝓛 ended hs c y (four_val (one w) (one w) none none) (g 0, g 1, k, r) (tt, tt) (tt, tt)))))))))

@@ -1,0 +1,6 @@
+pub mod StateLemmas
+pub mod RoomLemmas
+pub mod SeenLemmas
+pub mod TurnLemmas
+pub mod HoldLemmas
+pub mod EndLemmas

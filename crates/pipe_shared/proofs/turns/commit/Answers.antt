@@ -1,0 +1,24 @@
+-- The state stands for the history with the commit, and the seat has made it.
+use Rattle.pipe_shared.proofs.TurnLemmas.{stands_with, makes}
+use Rattle.pipe_shared.proofs.HoldLemmas.{going, has_room, refuses_flush}
+use Rattle.pipe_shared.proofs.turns.commit.Goals as goal
+
+pub returns-in_err-held-clause-refused : goal.returns-in_err-held-clause-refused
+returns-in_err-held-clause-refused g c = refuses_flush _ c.in_err-held.field-0.0 c.args.seat.now c.take.new.seat c.from_residual.result c.from_residual.ensures.1 c.in_err-held.ensures.refused
+
+pub commit-requires-clause-going : goal.commit-requires-clause-going
+commit-requires-clause-going g c =
+    going c.args.cell.now c.args.seat.now c.take.new.seat c.in_ok-held.held _ c.in_ok-held.ensures.taken c.state_mut.ensures.state _ _ c.requires.room
+
+pub commit-requires-clause-room : goal.commit-requires-clause-room
+commit-requires-clause-room g c =
+    has_room c.args.cell.now c.args.seat.now c.take.new.seat c.in_ok-held.held _ c.in_ok-held.ensures.taken c.state_mut.ensures.state _ c.requires.room
+
+pub put-requires-clause-stands : goal.put-requires-clause-stands
+put-requires-clause-stands g c =
+    stands_with c.args.cell.now c.args.seat.now c.take.new.seat c.in_ok-held.held _ _ _ _ _ c.in_ok-held.ensures.taken c.requires.room.end.numbered c.state_mut.ensures.state c.in-Ok.ensures.answers c.requires.entry
+
+pub returns-in-Ok-clause-made : goal.returns-in-Ok-clause-made
+returns-in-Ok-clause-made g c =
+    makes c.args.cell.now c.args.seat.now c.take.new.seat _ c.in_ok-held.held _ _ _ _ _ c.in_ok-held.ensures.taken c.requires.room.end.idle c.requires.room.end.numbered c.state_mut.ensures.state c.in-Ok.ensures.answers
+    c.requires.entry c.put.ensures.put

@@ -1,0 +1,11 @@
+pub mod Options
+pub mod Log
+pub mod State
+pub mod Faults
+pub mod Turns
+pub mod Rooms
+pub mod Ends
+pub mod Holding
+pub mod Lending
+pub mod Granting
+pub mod Made

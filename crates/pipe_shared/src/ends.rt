@@ -1,0 +1,162 @@
+//! The ends of a pipe.
+
+ghost use Rattle.std.specs.Prelude.{◌≡◌, ◌≤◌, ◌++◌, length, take, drop, is_some, Some, IsSome};
+ghost use Rattle.std.specs.Borrow.{sem};
+ghost use Rattle.pipe_core.specs.Lends.{lend};
+ghost use Rattle.pipe_shared.specs.Log.{calls_of};
+ghost use Rattle.pipe_shared.specs.Lending.{LendsSpare};
+
+use crate::faults::{FlushFault, TryFault};
+use crate::room::{DraftRoom, LendRoom};
+use crate::state::PipeState;
+use std::marker::Model;
+use turn_cell::TurnSeat;
+
+/// The writing end of a pipe: .NET's `PipeWriter`. It may go to another thread.
+///
+/// Writing into the free part and telling how much was written are its own affair: they take neither the turn nor the
+/// pipe.
+#[derive(Drop)]
+pub struct WriterEnd {
+    pub(crate) seat: TurnSeat<PipeState>,
+    pub(crate) draft: DraftRoom,
+}
+
+impl Model for WriterEnd {
+    ghost use Rattle.pipe_shared.specs.Ends.{Writer, IsWriter};
+
+    ghost Value = { Writer };
+
+    ghost view = { λ w. record { seat = w.seat; draft = w.draft.draft; free = w.draft.free } };
+
+    ghost invariant = { λ w. IsWriter w.seat w.draft };
+}
+
+impl WriterEnd {
+    /// The free part that was granted, as `PipeWriter.GetMemory` gives it: empty where there is none. What it holds isn't
+    /// specified.
+    pub fn spare_mut(&mut self) -> &mut [u8]
+        ensures* lends { sem 𝓛 (LendsSpare self.entry result) }
+        ensures value { result.now ≡ self.old.free }
+    {
+        self.draft.free_mut()
+    }
+
+    /// Takes the first `n` bytes of the free part to the end of the draft, as `PipeWriter.Advance` does.
+    pub fn advance(&mut self, n: usize)
+        requires { n ≤ length self.old.free }
+        ensures draft { self.new.draft ≡ self.old.draft ++ take n self.old.free }
+        ensures free { self.new.free ≡ drop n self.old.free }
+        ensures seat { self.new.seat ≡ self.old.seat }
+    {
+        self.draft.tell(n);
+    }
+
+    /// How many bytes are drafted: `PipeWriter.UnflushedBytes`.
+    pub fn unflushed(&self) -> u64
+        ensures { result ≡ length self.now.draft }
+    {
+        self.draft.draft_len() as u64
+    }
+}
+
+/// The reading end of a pipe: .NET's `PipeReader`. It may go to another thread.
+#[derive(Drop)]
+pub struct ReaderEnd {
+    pub(crate) seat: TurnSeat<PipeState>,
+    pub(crate) lend: LendRoom,
+}
+
+impl Model for ReaderEnd {
+    ghost use Rattle.pipe_shared.specs.Ends.{Reader, IsReader};
+
+    ghost Value = { Reader };
+
+    ghost view = { λ r. record { seat = r.seat; lent = r.lend.bytes } };
+
+    ghost invariant = { λ r. IsReader r.seat r.lend };
+}
+
+impl ReaderEnd {
+    /// Whether a lend stands: the last read was answered Ready, and there was no advance since.
+    pub fn lending(&self) -> bool
+        ensures { result ≡ is_some self.now.lent }
+    {
+        self.lend.is_lending()
+    }
+
+    /// The bytes that the last read lent: `ReadResult.Buffer`. What was committed since is not among them.
+    pub fn lent(&self) -> &[u8]
+        requires { IsSome self.now.lent }
+        ensures lent { self.now.lent ≡ Some result.now }
+        ensures bytes { lend (calls_of self.now.seat.seen) ≡ Some result.now }
+    {
+        self.lend.lent()
+    }
+}
+
+/// The right to cancel the pending read or flush of a pipe, or the next one: .NET's `CancelPendingRead` and
+/// `CancelPendingFlush`. It may go to another thread.
+#[derive(Drop)]
+pub struct Canceller {
+    pub(crate) seat: TurnSeat<PipeState>,
+}
+
+impl Model for Canceller {
+    ghost use Rattle.pipe_shared.specs.Turns.{Seat};
+    ghost use Rattle.pipe_shared.specs.Ends.{IsEnd};
+
+    ghost Value = { Seat };
+
+    ghost view = { λ k. k.seat };
+
+    ghost invariant = { λ k. IsEnd 2 k.seat };
+}
+
+/// A writer that has completed. With the reader's fellow and the canceller it closes the pipe.
+#[derive(Drop)]
+pub struct WriterDone {
+    pub(crate) seat: TurnSeat<PipeState>,
+}
+
+impl Model for WriterDone {
+    ghost use Rattle.pipe_shared.specs.Turns.{Seat};
+    ghost use Rattle.pipe_shared.specs.Ends.{IsEnd};
+
+    ghost Value = { Seat };
+
+    ghost view = { λ w. w.seat };
+
+    ghost invariant = { λ w. IsEnd 0 w.seat };
+}
+
+/// A reader that has completed.
+#[derive(Drop)]
+pub struct ReaderDone {
+    pub(crate) seat: TurnSeat<PipeState>,
+}
+
+impl Model for ReaderDone {
+    ghost use Rattle.pipe_shared.specs.Turns.{Seat};
+    ghost use Rattle.pipe_shared.specs.Ends.{IsEnd};
+
+    ghost Value = { Seat };
+
+    ghost view = { λ r. r.seat };
+
+    ghost invariant = { λ r. IsEnd 1 r.seat };
+}
+
+/// A completion of the writer that was refused: the end as it was, draft included.
+#[derive(Drop)]
+pub struct WriterRefused {
+    pub end: WriterEnd,
+    pub fault: FlushFault,
+}
+
+/// A completion of the reader that was refused: the end as it was, with its lend.
+#[derive(Drop)]
+pub struct ReaderRefused {
+    pub end: ReaderEnd,
+    pub fault: TryFault,
+}

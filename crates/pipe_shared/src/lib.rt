@@ -1,0 +1,24 @@
+//! A byte pipe whose two ends two threads may use. What it answers is told by its history, which has the definitions of
+//! `pipe_core`.
+#![tactic(auto)]
+
+mod canceling;
+mod ends;
+mod entry;
+mod faults;
+mod options;
+mod pipe;
+mod reading;
+mod room;
+mod state;
+#[cfg(test)]
+mod tests;
+mod turns;
+mod writing;
+
+pub use ends::{
+    Canceller, ReaderDone, ReaderEnd, ReaderRefused, WriterDone, WriterEnd, WriterRefused,
+};
+pub use faults::{FlushFault, RoomFault, TryFault};
+pub use options::{Field, MakeError, Options};
+pub use pipe::{Closed, Made, Pipe};

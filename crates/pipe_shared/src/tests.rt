@@ -1,0 +1,451 @@
+//! Known runs of a pipe.
+
+ghost use Rattle.std.specs.Prelude.{◌≡◌, IfSome};
+ghost use Rattle.std.specs.Thread.{IsSync};
+ghost use Rattle.turn_cell.specs.Seat.{IsOf};
+
+use crate::{
+    Canceller, Closed, Field, FlushFault, Made, MakeError, Options, Pipe, ReaderDone, ReaderEnd,
+    ReaderRefused, RoomFault, TryFault, WriterDone, WriterEnd, WriterRefused,
+};
+use pipe_core::{FlushReply, ReadReply, Wake};
+use std::sync::Wait;
+use std::test::Fail;
+use std::thread::{Threads, join};
+
+const NOBODY: Wake = Wake {
+    reader: false,
+    writer: false,
+};
+
+const THE_READER: Wake = Wake {
+    reader: true,
+    writer: false,
+};
+
+const THE_WRITER: Wake = Wake {
+    reader: false,
+    writer: true,
+};
+
+const FLUSHED: FlushReply = FlushReply::Ready {
+    canceled: false,
+    gone: None,
+};
+
+const SMALL: Options = Options {
+    segment: 64,
+    segments: 2,
+    pause: 8,
+    resume: 4,
+};
+
+type Flushed = Result<(FlushReply, Wake), FlushFault>;
+
+type Gave = Result<(ReadReply, Wake), TryFault>;
+
+type Woke = Result<Wake, TryFault>;
+
+fn small(rt: &HostRuntime) -> Option<Made>
+    ensures { IfSome result (λ made.
+        IsOf made.0 made.1.seat × IsOf made.0 made.2.seat × IsOf made.0 made.3) }
+{
+    Pipe::make(rt.alloc(), SMALL).ok()
+}
+
+fn complete(pipe: &Pipe, w: WriterEnd) -> Option<(WriterDone, Wake)>
+    requires { IsOf pipe.now w.seat }
+    ensures { IfSome result (λ done. IsOf pipe.now done.0) }
+{
+    pipe.try_complete(w, 0).ok()
+}
+
+fn complete_reader(pipe: &Pipe, r: ReaderEnd) -> Option<(ReaderDone, Wake)>
+    requires { IsOf pipe.now r.seat }
+    ensures { IfSome result (λ done. IsOf pipe.now done.0) }
+{
+    pipe.try_complete_reader(r, 0).ok()
+}
+
+// Takes room for these bytes, writes them, tells so, and flushes.
+fn send(pipe: &Pipe, w: &mut WriterEnd, bytes: &[u8]) -> Option<Flushed>
+    requires { IsOf pipe.now w.old.seat }
+    ensures { IsOf pipe.now w.new.seat }
+{
+    if pipe.try_room(w, bytes.len()).is_err() || !draft(w, bytes) {
+        return None;
+    }
+    Some(pipe.try_flush(w))
+}
+
+// Writes these bytes to the front of the free part, and tells so.
+fn draft(w: &mut WriterEnd, bytes: &[u8]) -> bool
+    ensures { w.new.seat ≡ w.old.seat }
+{
+    let spare = w.spare_mut();
+    if spare.len() < bytes.len() {
+        return false;
+    }
+    spare[..bytes.len()].copy_from_slice(bytes);
+    w.advance(bytes.len());
+    true
+}
+
+// Reads, where no lend stands.
+fn read(pipe: &Pipe, r: &mut ReaderEnd) -> Option<Gave>
+    requires { IsOf pipe.now r.old.seat }
+    ensures { IsOf pipe.now r.new.seat }
+{
+    if r.lending() {
+        return None;
+    }
+    Some(pipe.try_read(r))
+}
+
+// Advances, where so many bytes are lent and are these.
+fn advance(pipe: &Pipe, r: &mut ReaderEnd, lent: &[u8], c: u64, e: u64) -> Option<Woke>
+    requires { IsOf pipe.now r.old.seat }
+    ensures { IsOf pipe.now r.new.seat }
+{
+    if !r.lending() || r.lent() != lent || c > e || e > lent.len() as u64 {
+        return None;
+    }
+    Some(pipe.try_advance(r, c, e))
+}
+
+fn lends(len: u64) -> Option<Gave> {
+    ready(None, len)
+}
+
+fn ready(ended: Option<u32>, len: u64) -> Option<Gave> {
+    let reply = ReadReply::Ready {
+        canceled: false,
+        ended,
+        len,
+    };
+    Some(Ok((reply, NOBODY)))
+}
+
+fn waits(examined: u64) -> Option<Gave> {
+    Some(Ok((ReadReply::Pending { examined }, NOBODY)))
+}
+
+#[test]
+fn a_plain_run_of_a_pipe(rt: HostRuntime) -> Result<(), Fail> {
+    let (pipe, mut w, mut r, k) = small(&rt).ok_or("memory")?;
+    assert!(rt; pipe.try_room(&mut w, 0) == Ok(64));
+    assert!(rt; draft(&mut w, b"abc"));
+    assert_eq!(rt; w.unflushed(), 3);
+    assert!(rt; read(&pipe, &mut r) == waits(0));
+    assert!(rt; pipe.try_flush(&mut w) == Ok((FLUSHED, THE_READER)));
+    assert!(rt; read(&pipe, &mut r) == lends(3));
+    assert!(rt; send(&pipe, &mut w, b"de") == Some(Ok((FLUSHED, NOBODY))));
+    assert!(rt; advance(&pipe, &mut r, b"abc", 1, 3) == Some(Ok(NOBODY)));
+    assert!(rt; read(&pipe, &mut r) == lends(4));
+    assert!(rt; advance(&pipe, &mut r, b"bcde", 4, 4) == Some(Ok(NOBODY)));
+    assert!(rt; read(&pipe, &mut r) == waits(5));
+    let held = FlushReply::Pending { unexamined: 8 };
+    assert!(rt; send(&pipe, &mut w, b"12345678") == Some(Ok((held, THE_READER))));
+    let (w, wake) = complete(&pipe, w).ok_or("free")?;
+    assert!(rt; wake == NOBODY);
+    assert!(rt; read(&pipe, &mut r) == ready(Some(0), 8));
+    assert!(rt; advance(&pipe, &mut r, b"12345678", 8, 8) == Some(Ok(NOBODY)));
+    assert!(rt; read(&pipe, &mut r) == ready(Some(0), 0));
+    let (r, wake) = complete_reader(&pipe, r).ok_or("free")?;
+    assert!(rt; wake == NOBODY);
+    let closed = pipe.close(w, r, k);
+    assert!(rt;
+        closed
+            == Closed {
+                committed: 13,
+                consumed: 13
+            }
+    );
+    Ok(())
+}
+
+#[test]
+fn room_is_granted_up_to_the_capacity(rt: HostRuntime) -> Result<(), Fail> {
+    let (pipe, mut w, mut r, _k) = small(&rt).ok_or("memory")?;
+    let too_large = RoomFault::TooLarge {
+        hint: 65,
+        segment: 64,
+    };
+    assert!(rt; pipe.try_room(&mut w, 65) == Err(too_large));
+    assert!(rt; send(&pipe, &mut w, &[7; 60]).is_some());
+    assert!(rt; pipe.try_room(&mut w, 4) == Ok(4));
+    assert!(rt; draft(&mut w, &[8; 4]));
+    assert!(rt; pipe.try_room(&mut w, 64) == Ok(64));
+    assert!(rt; draft(&mut w, &[9; 60]));
+    let full = RoomFault::Full {
+        held: 60,
+        draft: 64,
+        capacity: 128,
+    };
+    assert!(rt; pipe.try_room(&mut w, 5) == Err(full));
+    assert!(rt; read(&pipe, &mut r).is_some());
+    assert!(rt; advance(&pipe, &mut r, &[7; 60], 1, 60) == Some(Ok(THE_WRITER)));
+    assert!(rt; pipe.try_room(&mut w, 5) == Ok(5));
+    Ok(())
+}
+
+#[test]
+fn cancellations_end_the_pending_call_or_the_next(rt: HostRuntime) -> Result<(), Fail> {
+    let (pipe, mut w, mut r, mut k) = small(&rt).ok_or("memory")?;
+    assert!(rt; read(&pipe, &mut r) == waits(0));
+    assert!(rt; pipe.try_cancel_read(&mut k) == Ok(THE_READER));
+    let reply = ReadReply::Ready {
+        canceled: true,
+        ended: None,
+        len: 0,
+    };
+    assert!(rt; read(&pipe, &mut r) == Some(Ok((reply, NOBODY))));
+    assert!(rt; pipe.try_cancel_flush(&mut k) == Ok(NOBODY));
+    let reply = FlushReply::Ready {
+        canceled: true,
+        gone: None,
+    };
+    assert!(rt; send(&pipe, &mut w, b"12345678") == Some(Ok((reply, NOBODY))));
+    Ok(())
+}
+
+fn refusal(rt: &HostRuntime, options: Options) -> Option<MakeError> {
+    if options.segments > 1 << 20 || options.segment > 1 << 10 {
+        return None;
+    }
+    Pipe::make(rt.alloc(), options).err()
+}
+
+#[test]
+fn the_first_field_out_of_its_range_is_told(rt: HostRuntime) {
+    let cases = [
+        (
+            Options {
+                segment: 63,
+                ..SMALL
+            },
+            Field::Segment,
+            63,
+        ),
+        (
+            Options {
+                segments: 1,
+                pause: 0,
+                ..SMALL
+            },
+            Field::Segments,
+            1,
+        ),
+        (
+            Options {
+                pause: (1 << 40) + 1,
+                ..SMALL
+            },
+            Field::Pause,
+            (1 << 40) + 1,
+        ),
+        (Options { resume: 9, ..SMALL }, Field::Resume, 9),
+        (Options { resume: 0, ..SMALL }, Field::Resume, 0),
+    ];
+    for (options, field, number) in cases {
+        let wanted = MakeError::BadOptions { field, number };
+        assert!(rt; refusal(&rt, options) == Some(wanted));
+    }
+    let never = Options {
+        pause: 0,
+        resume: 0,
+        ..SMALL
+    };
+    assert!(rt; refusal(&rt, never) == None);
+}
+
+// Tries until there is room for a piece, and drafts it.
+fn draft_on<R: Wait>(rt: &R, pipe: &Pipe, w: &mut WriterEnd, piece: &[u8])
+    requires { IsOf pipe.now w.old.seat }
+    ensures { IsOf pipe.now w.new.seat }
+{
+    for _ in rt.forever() {
+        if pipe.try_room(w, piece.len()).is_ok() && draft(w, piece) {
+            break;
+        }
+    }
+}
+
+// Tries until the draft is flushed, whether or not the writer may go on.
+fn flush_on<R: Wait>(rt: &R, pipe: &Pipe, w: &mut WriterEnd)
+    requires { IsOf pipe.now w.old.seat }
+    ensures { IsOf pipe.now w.new.seat }
+{
+    for _ in rt.forever() {
+        if pipe.try_flush(w).is_ok() {
+            break;
+        }
+    }
+}
+
+// Tries until the writer has completed.
+fn complete_on<R: Wait>(rt: &R, pipe: &Pipe, w: WriterEnd) -> WriterDone
+    requires { IsOf pipe.now w.seat }
+    ensures { IsOf pipe.now result }
+{
+    let mut end = w;
+    for _ in rt.forever() {
+        match pipe.try_complete(end, 0) {
+            Ok((done, _)) => return done,
+            Err(WriterRefused { end: back, .. }) => end = back,
+        }
+    }
+    unreachable!()
+}
+
+// Writes so many pieces, and completes.
+fn write_on<R: Wait>(rt: &R, pipe: &Pipe, mut w: WriterEnd, pieces: u64) -> WriterDone
+    requires { IsOf pipe.now w.seat }
+    ensures { IsOf pipe.now result }
+{
+    for _ in 0..pieces {
+        draft_on(rt, pipe, &mut w, b"a piece of 20 bytes.");
+        flush_on(rt, pipe, &mut w);
+    }
+    complete_on(rt, pipe, w)
+}
+
+// Consumes what is lent, and tells how much that was.
+fn consume(pipe: &Pipe, r: &mut ReaderEnd) -> u64
+    requires { IsOf pipe.now r.old.seat }
+    ensures { IsOf pipe.now r.new.seat }
+{
+    if !r.lending() {
+        return 0;
+    }
+    let len = r.lent().len() as u64;
+    match pipe.try_advance(r, len, len) {
+        Ok(_) => len,
+        Err(_) => 0,
+    }
+}
+
+// Reads where no lend stands, and tells whether that was the last read.
+fn is_at_end(pipe: &Pipe, r: &mut ReaderEnd) -> bool
+    requires { IsOf pipe.now r.old.seat }
+    ensures { IsOf pipe.now r.new.seat }
+{
+    let Some(Ok((ReadReply::Ready { ended, len, .. }, _))) = read(pipe, r) else {
+        return false;
+    };
+    ended == Some(0) && len == 0
+}
+
+// Tries until the reader has completed.
+fn end_on<R: Wait>(rt: &R, pipe: &Pipe, r: ReaderEnd) -> ReaderDone
+    requires { IsOf pipe.now r.seat }
+    ensures { IsOf pipe.now result }
+{
+    let mut end = r;
+    for _ in rt.forever() {
+        match pipe.try_complete_reader(end, 0) {
+            Ok((done, _)) => return done,
+            Err(ReaderRefused { end: back, .. }) => end = back,
+        }
+    }
+    unreachable!()
+}
+
+// Reads to the end, and tells how much it consumed.
+fn read_on<R: Wait>(rt: &R, pipe: &Pipe, mut r: ReaderEnd) -> (ReaderDone, u64)
+    requires { IsOf pipe.now r.seat }
+    ensures { IsOf pipe.now result.0 }
+{
+    let mut sum: u64 = 0;
+    for _ in rt.forever() {
+        sum = sum.saturating_add(consume(pipe, &mut r));
+        if is_at_end(pipe, &mut r) {
+            break;
+        }
+    }
+    (end_on(rt, pipe, r), sum)
+}
+
+// Tries so often to cancel a read and a flush.
+fn cancel_often(pipe: &Pipe, mut k: Canceller, times: u64) -> Canceller
+    requires { IsOf pipe.now k }
+    ensures { IsOf pipe.now result }
+{
+    for _ in 0..times {
+        let _canceled = pipe.try_cancel_read(&mut k);
+        let _canceled = pipe.try_cancel_flush(&mut k);
+    }
+    k
+}
+
+type Read = (ReaderDone, u64);
+
+fn read_and_cancel<R: Threads + Wait + Sync>(
+    rt: &R,
+    pipe: &Pipe,
+    r: ReaderEnd,
+    k: Canceller,
+    times: u64,
+) -> (Read, Canceller)
+    requires reader { IsOf pipe.now r.seat }
+    requires canceller { IsOf pipe.now k }
+    ensures reader { IsOf pipe.now result.0.0 }
+    ensures canceller { IsOf pipe.now result.1 }
+{
+    join(
+        rt,
+        || -> Read
+            requires { IsOf pipe.now r.seat }
+            ensures { IsOf pipe.entry.now result.0 }
+        { read_on(rt, pipe, r) },
+        || -> Canceller
+            requires { IsOf pipe.now k }
+            ensures { IsOf pipe.entry.now result }
+        { cancel_often(pipe, k, times) },
+    )
+}
+
+// What three threads have done, one for each end.
+fn use_by_three<R: Threads + Wait + Sync>(
+    rt: &R,
+    pipe: &Pipe,
+    w: WriterEnd,
+    r: ReaderEnd,
+    k: Canceller,
+    times: u64,
+) -> (WriterDone, (Read, Canceller))
+    requires writer { IsOf pipe.now w.seat }
+    requires reader { IsOf pipe.now r.seat }
+    requires canceller { IsOf pipe.now k }
+    ensures writer { IsOf pipe.now result.0 }
+    ensures reader { IsOf pipe.now result.1.0.0 }
+    ensures canceller { IsOf pipe.now result.1.1 }
+{
+    join(
+        rt,
+        || -> WriterDone
+            requires { IsOf pipe.now w.seat }
+            ensures { IsOf pipe.entry.now result }
+        { write_on(rt, pipe, w, times) },
+        || -> (Read, Canceller)
+            requires { IsSync R.row × IsOf pipe.now r.seat × IsOf pipe.now k }
+            ensures { IsOf pipe.entry.now result.0.0 × IsOf pipe.entry.now result.1 }
+        { read_and_cancel(rt, pipe, r, k, times) },
+    )
+}
+
+#[test]
+fn three_threads_use_a_pipe_and_no_byte_is_lost(rt: HostRuntime) -> Result<(), Fail> {
+    let (pipe, w, r, k) = small(&rt).ok_or("memory")?;
+    let (w, ((r, read), k)) = use_by_three(&rt, &pipe, w, r, k, 500);
+    let closed = pipe.close(w, r, k);
+    assert_eq!(rt; read, 10_000);
+    assert!(rt;
+        closed
+            == Closed {
+                committed: 10_000,
+                consumed: 10_000
+            }
+    );
+    Ok(())
+}

@@ -1,0 +1,431 @@
+-- What a lend is, and what the frames of it come to in all that is committed.
+use Rattle.std.proofs.Common.{◌≡◌, ◌≢◌, ◌<◌, ◌≤◌, ◌+◌, ◌*◌, ◌^◌, ℕ, Bool, true, false, cond, List, [], ◌∷◌, ◌++◌, length, take, drop, Option, Some, None, refl, sym, ap, ◌∙◌, subst, append-nil, append_assoc, arith, add-zero, inl, inr, ◌⊎◌}
+use Rattle.std.specs.Prelude.{is_none, max, unwrap_or}
+use Rattle.std.proofs.lemmas.Grind.{flat_map-append}
+use mathlib.Core.List.{IsPrefix}
+use Rattle.std.proofs.lemmas.Bool.Decides.{Decides-eqb}
+use Rattle.std.proofs.lemmas.List.{length-append, length-drop, take-append-drop, drop-append-le, drop-drop, take-append-le, take_all}
+use Rattle.frame_model.specs.declared.framing.Framing.{Framing}
+use Rattle.frame_model.specs.declared.framing.Framing.TheVariants.{Len4, Len2, Line}
+use Rattle.frame_model.specs.declared.framing.BadKind.{BadKind}
+use Rattle.frame_model.specs.declared.job.Job.{Job}
+use Rattle.frame_model.specs.Spelling.{spelling, text as text_of}
+use Rattle.frame_model.specs.Cut.{Verdict, Open, End, Rest, Bad, moved}
+use Rattle.frame_model.specs.Translation.{translation, behind}
+use Rattle.frame_model.specs.Ending.{frames_written}
+use Rattle.frame_model.proofs.EndLemmas.{no_end, no_rest, not_open}
+use Rattle.frame_model.proofs.FrameLemmas.{spelling_len}
+use Rattle.relay_model.specs.Run.{frames_in, payloads_of}
+use Rattle.pipe_core.specs.declared.reply.ReadReply.{ReadReply}
+use Rattle.pipe_core.specs.declared.reply.ReadReply.TheVariants as read
+use Rattle.pipe_core.specs.History.{Call, Run, Commit, Read, Advance, EndReader, bytes_of, reader_end, writer_end}
+use Rattle.pipe_core.specs.Progress.{total, consumed, examined, held, canceled_read}
+use Rattle.pipe_core.specs.Reads.{read_is_ready, reply_to_read}
+use Rattle.pipe_core.specs.Lends.{lend}
+use Rattle.pipe_core.specs.Legal.{IsLegal}
+use Rattle.pipe_core.proofs.OrderLemmas.{ordered, seen_all, total_commit}
+use Rattle.relay_engine.specs.Frames.{Passes, StopsAt, capped, verdict_of}
+use Rattle.relay_engine.specs.Drainer.{DrainState, Ends, Fails, IsAsked, IsDrained, Passed, Rests, end_code, is_success, is_whole, looked_at, translated}
+use Rattle.relay_engine.specs.Drainer.{verdict_of as is_verdict_of}
+use Rattle.relay_engine.specs.Passing.{added, end_at}
+use Rattle.relay_engine.specs.declared.drainer.DrainEnd.{DrainEnd}
+use Rattle.relay_engine.specs.declared.drainer.DrainEnd.TheVariants as ends
+use Rattle.relay_engine.specs.declared.drainer.DrainStep.TheVariants.{Done}
+use Rattle.relay_engine.specs.declared.frames.Stop.{Stop}
+use Rattle.relay_engine.specs.declared.frames.Stop.TheVariants as stops
+use Rattle.relay_engine.proofs.FrameLemmas.{may_stop, passed_text, passes_more}
+use Rattle.relay_engine.proofs.CountLemmas.{frames_all, frames_before}
+
+-- ---- what is said by a reply
+
+lent_if : (b : Bool) (bytes lent : List ℕ) → cond b (Some bytes) None ≡ Some lent → lent ≡ bytes
+lent_if true bytes lent e = cc
+lent_if false bytes lent e = absurd cc
+
+pub lent_is_held : (h : List Call) (lent : List ℕ) → lend (Read ∷ h) ≡ Some lent → lent ≡ held h
+lent_is_held h lent e = lent_if (read_is_ready h) (held h) lent e
+
+ready_if : (b canceled canceled' : Bool) (ended ended' : Option ℕ) (len len' n : ℕ) → cond b (read.Ready canceled ended len) (read.Pending n) ≡ read.Ready canceled' ended' len' → (ended' ≡ ended) × (len' ≡ len)
+ready_if true canceled canceled' ended ended' len len' n e = (cc, cc)
+ready_if false canceled canceled' ended ended' len len' n e = absurd cc
+
+pub ready_says : (h : List Call) (canceled : Bool) (ended : Option ℕ) (len : ℕ) → reply_to_read h ≡ read.Ready canceled ended len → (ended ≡ writer_end h) × (len ≡ length (held h))
+ready_says h canceled ended len e = ready_if (read_is_ready h) (canceled_read h) canceled (writer_end h) ended (length (held h)) len (examined h) e
+
+pending_if : (b canceled : Bool) (ended : Option ℕ) (len n n' : ℕ) → cond b (read.Ready canceled ended len) (read.Pending n) ≡ read.Pending n' → n' ≡ n
+pending_if true canceled ended len n n' e = absurd cc
+pending_if false canceled ended len n n' e = cc
+
+pub pending_says : (h : List Call) (n : ℕ) → IsLegal h → reply_to_read h ≡ read.Pending n → examined h ≡ length (total h)
+pending_says h n legal e =
+    sym (pending_if (read_is_ready h) (canceled_read h) (writer_end h) (length (held h)) (examined h) n e) ∙ seen_all h n legal e
+
+-- ---- all that is committed, behind what was passed over
+
+passes_longer : (job : Job) (x y : List ℕ) (n i : ℕ) (text : List ℕ) → Passes job x false n i text → Passes job (x ++ y) false n i text
+passes_longer job x y n i text over =
+    let rest : drop n (x ++ y) ≡ drop n x ++ y = drop-append-le n x y over.within in
+    record {
+      within = omega (arith, over.within, length-append x y);
+      payloads = over.payloads;
+      counted = over.counted;
+      spelt = over.spelt;
+      few = over.few;
+      bounded = over.bounded;
+      listed = λ z at_end may.
+          ap (λ (t : List ℕ). payloads_of job t at_end) (append_assoc x y z) ∙ over.listed (y ++ z) at_end tt
+          ∙ ap (λ (t : List ℕ). over.payloads ++ payloads_of job t at_end) (sym (ap (λ (t : List ℕ). t ++ z) rest ∙ append_assoc (drop n x) y z));
+      goes_on = λ z at_end may.
+          ap (λ (t : List ℕ). translation job t at_end) (append_assoc x y z) ∙ over.goes_on (y ++ z) at_end tt
+          ∙ ap (λ (t : List ℕ). behind text n (translation job t at_end)) (sym (ap (λ (t : List ℕ). t ++ z) rest ∙ append_assoc (drop n x) y z));
+    }
+
+passes_to_end : (job : Job) (x : List ℕ) (n i : ℕ) (text : List ℕ) (at_end : Bool) → Passes job x false n i text → Passes job x at_end n i text
+passes_to_end job x n i text at_end over = record {
+  within = over.within;
+  payloads = over.payloads;
+  counted = over.counted;
+  spelt = over.spelt;
+  few = over.few;
+  bounded = over.bounded;
+  listed = λ z b may. over.listed z b tt;
+  goes_on = λ z b may. over.goes_on z b tt;
+}
+
+pub so_far : (d : DrainState) (h : List Call) (text : List ℕ) (at_end : Bool) → IsDrained d h text → Passes d.job (total h) at_end d.place d.frames text
+so_far d h text at_end drained =
+    let all : looked_at h ++ drop (examined h) (total h) ≡ total h = take-append-drop (examined h) (total h) in
+    passes_to_end d.job (total h) d.place d.frames text at_end
+    (subst (λ (x : List ℕ). Passes d.job x false d.place d.frames text) all (passes_longer d.job (looked_at h) (drop (examined h) (total h)) d.place d.frames text drained.passes))
+
+rest_of : (d : DrainState) (h : List Call) (text : List ℕ) → IsDrained d h text → held h ≡ drop d.place (total h)
+rest_of d h text drained = ap (λ (n : ℕ). drop n (total h)) (sym drained.place)
+
+-- the frames of a lend behind them
+pub passed_all : (d : DrainState) (h : List Call) (text gain : List ℕ) (at_end : Bool) (n i : ℕ) → IsDrained d h text → Passes d.job (held h) at_end n i gain → Passes d.job (total h) at_end (d.place + n) (d.frames + i) (text ++ gain)
+passed_all d h text gain at_end n i drained more =
+    passes_more d.job (total h) at_end d.place n d.frames i text gain (so_far d h text at_end drained) (subst (λ (x : List ℕ). Passes d.job x at_end n i gain) (rest_of d h text drained) more)
+
+pub held_is : (h : List Call) → IsLegal h → consumed h + length (held h) ≡ length (total h)
+held_is h legal = omega (arith, length-drop (consumed h) (total h), (ordered h legal).consumed_in)
+
+-- ---- the verdict
+
+verdict_moves : (stop : Stop) (n : ℕ) → moved n (verdict_of stop 0) ≡ verdict_of stop n
+verdict_moves stops.More n = refl
+verdict_moves stops.End n = refl
+verdict_moves stops.Rest n = ap (λ (k : ℕ). Rest k) (add-zero n)
+verdict_moves (stops.Bad kind) n = ap (λ (k : ℕ). Bad k kind) (add-zero n)
+
+-- what was written is all that is to be written, and the verdict is that for which it stopped
+pub said_all : (job : Job) (x text : List ℕ) (at_end : Bool) (n i : ℕ) (stop : Stop) → Passes job x at_end n i text → translation job (drop n x) at_end ≡ record { text = []; verdict = verdict_of stop 0 }
+    → translation job x at_end ≡ record { text = text; verdict = verdict_of stop n }
+said_all job x text at_end n i stop passes told =
+    passed_text job x at_end n i text passes ∙ ap (λ t. behind text n t) told
+    ∙ ap (λ (v : Verdict). record { text = text ++ []; verdict = v }) (verdict_moves stop n)
+    ∙ ap (λ (t : List ℕ). record { text = t; verdict = verdict_of stop n }) (append-nil text)
+
+pub told_behind : (d : DrainState) (h : List Call) (text : List ℕ) (at_end : Bool) (n : ℕ) (stop : Stop) → IsDrained d h text → StopsAt d.job (drop n (held h)) at_end stop
+    → translation d.job (drop (d.place + n) (total h)) at_end ≡ record { text = []; verdict = verdict_of stop 0 }
+told_behind d h text at_end n stop drained stopped =
+    ap (λ (x : List ℕ). translation d.job x at_end) (sym (ap (λ (x : List ℕ). drop n x) (rest_of d h text drained) ∙ drop-drop n d.place (total h))) ∙ stopped.told
+
+-- ---- the numbers
+
+pub capped_small : (n : ℕ) → n ≤ 2 ^ 62 → capped n ≡ n
+capped_small n small = omega (arith, small)
+
+pub capped_sum : (xs ys : List ℕ) (a b : ℕ) → a ≡ capped (length xs) → b ≡ capped (length ys) → capped (a + b) ≡ capped (length (xs ++ ys))
+capped_sum xs ys a b first second = omega (arith, first, second, length-append xs ys)
+
+some_spelling : (f : Framing) (p : List ℕ) → 0 < length (spelling f p)
+some_spelling Len4 p = omega (arith, spelling_len Len4 p)
+some_spelling Len2 p = omega (arith, spelling_len Len2 p)
+some_spelling Line p = omega (arith, spelling_len Line p)
+
+nothing_spelt : (f : Framing) (ps : List (List ℕ)) → length (text_of f ps) ≡ 0 → ps ≡ []
+nothing_spelt f [] none = refl
+nothing_spelt f (p ∷ ps) none = absurd (omega (arith, none, length-append (spelling f p) (text_of f ps), some_spelling f p))
+
+listed_all : (job : Job) (x text : List ℕ) (at_end : Bool) (n i : ℕ) → (passes : Passes job x at_end n i text) → payloads_of job x at_end ≡ passes.payloads ++ payloads_of job (drop n x) at_end
+listed_all job x text at_end n i passes =
+    ap (λ (t : List ℕ). payloads_of job t at_end) (sym (append-nil x)) ∙ passes.listed [] at_end (may_stop at_end)
+    ∙ ap (λ (t : List ℕ). passes.payloads ++ payloads_of job t at_end) (append-nil (drop n x))
+
+-- every frame that is to be written is whole
+pub frames_whole : (job : Job) (x text : List ℕ) (at_end : Bool) (n i : ℕ) (v : Verdict) → Passes job x at_end n i text → translation job x at_end ≡ record { text = text; verdict = v } → frames_in job x at_end text ≡ i
+frames_whole job x text at_end n i v passes told =
+    let ps = passes.payloads in
+    let qs = payloads_of job (drop n x) at_end in
+    let all = listed_all job x text at_end n i passes in
+    let texts : text ≡ text_of job.output ps ++ text_of job.output qs =
+    sym (ap (λ t. t.text) told) ∙ ap (λ (rs : List (List ℕ)). text_of job.output rs) all ∙ flat_map-append (spelling job.output) ps qs in
+    let none = nothing_spelt job.output qs (omega (arith, ap length texts, ap length passes.spelt, length-append (text_of job.output ps) (text_of job.output qs))) in
+    let same : payloads_of job x at_end ≡ ps = all ∙ ap (λ (rs : List (List ℕ)). ps ++ rs) none ∙ append-nil ps in
+    ap (λ (rs : List (List ℕ)). frames_written job.output rs text (length rs)) same
+    ∙ ap (λ (t : List ℕ). frames_written job.output ps t (length ps)) passes.spelt
+    ∙ frames_all job.output ps ∙ sym passes.counted
+
+-- one was broken off, and is the first that isn't
+pub frames_partial : (job : Job) (x text : List ℕ) (at_end : Bool) (n i : ℕ) (next part : List ℕ) (others : List (List ℕ)) → Passes job x at_end n i text → payloads_of job (drop n x) at_end ≡ next ∷ others
+    → length part < length (spelling job.output next) → frames_in job x at_end (text ++ part) ≡ i
+frames_partial job x text at_end n i next part others passes stands short =
+    let ps = passes.payloads in
+    let all = listed_all job x text at_end n i passes ∙ ap (λ (rs : List (List ℕ)). ps ++ rs) stands in
+    ap (λ (rs : List (List ℕ)). frames_written job.output rs (text ++ part) (length rs)) all
+    ∙ ap (λ (t : List ℕ). frames_written job.output (ps ++ next ∷ others) (t ++ part) (length (ps ++ next ∷ others))) passes.spelt
+    ∙ frames_before job.output ps others next part short ∙ sym passes.counted
+
+-- what was written of it is a front of what is to be written
+pub front_partial : (job : Job) (x text : List ℕ) (at_end : Bool) (n i : ℕ) (next part : List ℕ) (others : List (List ℕ)) → Passes job x at_end n i text → payloads_of job (drop n x) at_end ≡ next ∷ others
+    → IsPrefix part (spelling job.output next) → IsPrefix (text ++ part) (translation job x at_end).text
+front_partial job x text at_end n i next part others passes stands front =
+    let ps = passes.payloads in
+    let out = job.output in
+    let all : (translation job x at_end).text ≡ text ++ (spelling out next ++ text_of out others) =
+    ap (λ (rs : List (List ℕ)). text_of out rs) (listed_all job x text at_end n i passes ∙ ap (λ (rs : List (List ℕ)). ps ++ rs) stands)
+    ∙ flat_map-append (spelling out) ps (next ∷ others) ∙ ap (λ (t : List ℕ). t ++ (spelling out next ++ text_of out others)) (sym passes.spelt) in (
+      front.0 ++ text_of out others,
+      append_assoc text part (front.0 ++ text_of out others)
+          ∙ ap (λ (t : List ℕ). text ++ t) (sym (append_assoc part front.0 (text_of out others)) ∙ ap (λ (t : List ℕ). t ++ text_of out others) front.1)
+          ∙ sym all,
+    )
+
+-- ---- the state behind a step
+
+legal_total : (h : List Call) → IsLegal h → length (total h) ≤ 2 ^ 62
+legal_total h legal = (ordered h legal).total_in
+
+place_is : (d : DrainState) (h : List Call) (text gain : List ℕ) (at_end : Bool) (n i w : ℕ) → IsLegal h → Passes d.job (total h) at_end (d.place + n) (d.frames + i) (text ++ gain) → (added d n i w).place ≡ d.place + n
+place_is d h text gain at_end n i w legal passes = capped_small (d.place + n) (omega (arith, passes.within, legal_total h legal))
+
+frames_are : (d : DrainState) (h : List Call) (text gain : List ℕ) (at_end : Bool) (n i w : ℕ) → IsLegal h → Passes d.job (total h) at_end (d.place + n) (d.frames + i) (text ++ gain) → (added d n i w).frames ≡ d.frames + i
+frames_are d h text gain at_end n i w legal passes = capped_small (d.frames + i) (omega (arith, passes.few, passes.within, legal_total h legal))
+
+passes_at : (job : Job) (x text : List ℕ) (at_end : Bool) (n n' i i' : ℕ) → n' ≡ n → i' ≡ i → Passes job x at_end n i text → Passes job x at_end n' i' text
+passes_at job x text at_end n n' i i' same_n same_i passes =
+    subst (λ (k : ℕ). Passes job x at_end k i' text) (sym same_n) (subst (λ (k : ℕ). Passes job x at_end n k text) (sym same_i) passes)
+
+pub rests : (d : DrainState) (h : List Call) (text : List ℕ) (n : ℕ) → IsLegal h → reply_to_read h ≡ read.Pending n → IsDrained d h text → Rests d h text [] (Read ∷ []) d
+rests d h text n legal reply drained =
+    let seen = pending_says h n legal reply in
+    let all : looked_at h ≡ total h = take_all (examined h) (total h) (omega (arith, seen)) in
+    record {
+      calls_are = refl;
+      none = refl;
+      drainer = refl;
+      all_seen = seen;
+      drained = record { place = drained.place; passes = drained.passes; rest = drained.rest; short = drained.short; counted = drained.counted };
+      whole =
+          sym (ap (λ t. t.text) (said_all d.job (looked_at h) text false d.place d.frames stops.More drained.passes drained.rest))
+          ∙ ap (λ (x : List ℕ). (translation d.job x false).text) all;
+    }
+
+-- what was written of a lend, and why no more was
+pub record Wrote (job : Job) (x : List ℕ) (at_end : Bool) (n i w : ℕ) (stop : Stop) (text : List ℕ) : Type 0 where
+  pub passes : Passes job x at_end n i text
+  pub counted : w ≡ capped (length text)
+  pub stopped : StopsAt job (drop n x) at_end stop
+
+-- the frames of a lend behind which more is wanted
+pub passed_on : (d : DrainState) (h : List Call) (text gain : List ℕ) (n i w : ℕ) → IsLegal h → IsDrained d h text → Wrote d.job (held h) false n i w stops.More gain
+    → Passed d h text gain (Advance n (length (held h)) ∷ Read ∷ []) (added d n i w) i
+passed_on d h text gain n i w legal drained drains =
+    let len = length (held h) in
+    let all = text ++ gain in
+    let passes = passed_all d h text gain false n i drained drains.passes in
+    let place = place_is d h text gain false n i w legal passes in
+    let frames = frames_are d h text gain false n i w legal passes in
+    let whole = held_is h legal in
+    let seen : take (max (examined h) (consumed h + len)) (total h) ≡ total h = take_all (max (examined h) (consumed h + len)) (total h) (omega (arith, whole)) in
+    let told = told_behind d h text false n stops.More drained drains.stopped in
+    let rest : drop (added d n i w).place (take (max (examined h) (consumed h + len)) (total h)) ≡ drop (d.place + n) (total h) = ap (λ (k : ℕ). drop k (take (max (examined h) (consumed h + len)) (total h))) place ∙ ap (λ (x : List ℕ). drop (d.place + n) x) seen in
+    let behind_it : drop (d.place + n) (total h) ≡ drop n (held h) = sym (ap (λ (x : List ℕ). drop n x) (rest_of d h text drained) ∙ drop-drop n d.place (total h)) in
+    record {
+      len = len;
+      passed = n;
+      calls_are = refl;
+      lent = whole;
+      drained = record {
+        place = place ∙ ap (λ (k : ℕ). k + n) drained.place;
+        passes = subst (λ (x : List ℕ). Passes d.job x false (added d n i w).place (added d n i w).frames all) (sym seen) (passes_at d.job (total h) all false (d.place + n) (added d n i w).place (d.frames + i) (added d n i w).frames place frames passes);
+        rest = ap (λ (x : List ℕ). translation d.job x false) rest ∙ told;
+        short = omega (arith, ap length (rest ∙ behind_it), drains.stopped.short refl);
+        counted = capped_sum text gain d.written w drained.counted drains.counted;
+      };
+      counted = frames;
+      whole = sym (ap (λ t. t.text) (said_all d.job (total h) all false (d.place + n) (d.frames + i) stops.More passes told));
+    }
+
+-- ---- an end
+
+success_is : (ended : Option ℕ) → is_success ended ≡ true → ended ≡ Some 0
+success_is None yes_so = absurd cc
+success_is (Some code) yes_so = ap (λ (k : ℕ). Some k) ((Decides-eqb code 0).0 yes_so)
+
+failure_is : (code : ℕ) → is_success (Some code) ≡ false → code ≢ 0
+failure_is code not_so zero_code = let same = (Decides-eqb code 0).1 zero_code in let both = rw same at not_so in absurd cc
+
+-- an end comes with its verdict, and with the writer's code that it wants
+pub record EndsSo (job : Job) (ended : Option ℕ) (place : ℕ) (stop : Stop) (end : DrainEnd) : Type 0 where
+  pub verdict : is_verdict_of end (verdict_of stop place)
+  pub asked : (canceled : Bool) (len : ℕ) (reply : ReadReply) → reply ≡ read.Ready canceled ended len → IsAsked (Done end) reply
+
+bool_cases : (b : Bool) → (b ≡ true) ⊎ (b ≡ false)
+bool_cases true = inl refl
+bool_cases false = inr refl
+
+some_is : {A : Type 0} (a b : A) → Some a ≡ Some b → a ≡ b
+some_is a b e = ap (λ o. unwrap_or o a) e
+
+bad_so : (job : Job) (ended : Option ℕ) (place : ℕ) (kind : BadKind) → EndsSo job ended place (stops.Bad kind) (ends.Bad place kind)
+bad_so job ended place kind = record { verdict = refl; asked = λ canceled len reply is. (canceled, ended, len, is) }
+
+at_end_so : (job : Job) (ended : Option ℕ) (rest : List ℕ) (v : Verdict) → translation job rest (is_success ended) ≡ record { text = []; verdict = v } → ((translation job rest false).verdict ≢ v) → ended ≡ Some 0
+at_end_so job ended rest v told never = elim (bool_cases (is_success ended)) [
+  | inl whole ↦ success_is ended whole
+  | inr part ↦ absurd (never (ap (λ t. t.verdict) (sym (ap (λ (b : Bool). translation job rest b) part) ∙ told)))
+]
+
+open_so : (job : Job) (code : ℕ) (rest : List ℕ) → translation job rest (is_success (Some code)) ≡ record { text = []; verdict = Open } → code ≢ 0
+open_so job code rest told = elim (bool_cases (is_success (Some code))) [
+  | inl whole ↦ absurd (not_open job rest (ap (λ t. t.verdict) (sym (ap (λ (b : Bool). translation job rest b) whole) ∙ told)))
+  | inr part ↦ failure_is code part
+]
+
+pub ends_so : (job : Job) (ended : Option ℕ) (place : ℕ) (stop : Stop) (end : DrainEnd) (rest : List ℕ) → translation job rest (is_success ended) ≡ record { text = []; verdict = verdict_of stop 0 } → end_at stop ended place ≡ Some end → EndsSo job ended place stop end
+ends_so job ended place (stops.Bad kind) end rest told at = subst (λ (e : DrainEnd). EndsSo job ended place (stops.Bad kind) e) (some_is (ends.Bad place kind) end at) (bad_so job ended place kind)
+ends_so job ended place stops.Rest end rest told at =
+    let success = at_end_so job ended rest (Rest 0) told (no_rest job rest 0) in
+    subst (λ (e : DrainEnd). EndsSo job ended place stops.Rest e) (some_is (ends.Rest place) end at) (record {
+      verdict = refl;
+      asked = λ canceled len reply is. (canceled, len, is ∙ ap (λ (o : Option ℕ). read.Ready canceled o len) success);
+    })
+ends_so job ended place stops.End end rest told at =
+    let success = at_end_so job ended rest End told (no_end job rest) in
+    subst (λ (e : DrainEnd). EndsSo job ended place stops.End e) (some_is ends.Clean end at) (record {
+      verdict = refl;
+      asked = λ canceled len reply is. (canceled, len, is ∙ ap (λ (o : Option ℕ). read.Ready canceled o len) success);
+    })
+ends_so job (Some code) place stops.More end rest told at =
+    let failure = open_so job code rest told in
+    subst (λ (e : DrainEnd). EndsSo job (Some code) place stops.More e) (some_is ends.Stopped end at) (record {
+      verdict = refl;
+      asked = λ canceled len reply is. (canceled, code, len, failure, is);
+    })
+ends_so job None place stops.More end rest told at = absurd cc
+
+-- where nothing ends, more is wanted, and the writer goes on
+pub goes_on_so : (stop : Stop) (ended : Option ℕ) (place : ℕ) → end_at stop ended place ≡ None → (stop ≡ stops.More) × (ended ≡ None)
+goes_on_so (stops.Bad kind) ended place at = absurd cc
+goes_on_so stops.Rest ended place at = absurd cc
+goes_on_so stops.End ended place at = absurd cc
+goes_on_so stops.More (Some code) place at = absurd cc
+goes_on_so stops.More None place at = (refl, refl)
+
+pub record EndFacts (d : DrainState) (h : List Call) (text gain : List ℕ) (n i w : ℕ) (stop : Stop) : Type 0 where
+  pub place : (added d n i w).place ≡ d.place + n
+  pub passes : Passes d.job (total h) (is_whole h) (added d n i w).place (added d n i w).frames (text ++ gain)
+  pub said : translated d.job h ≡ record { text = text ++ gain; verdict = verdict_of stop (added d n i w).place }
+  pub frames : (added d n i w).frames ≡ frames_in d.job (total h) (is_whole h) (text ++ gain)
+  pub written : (added d n i w).written ≡ capped (length (text ++ gain))
+
+pub end_facts : (d : DrainState) (h : List Call) (text gain : List ℕ) (n i w : ℕ) (stop : Stop) → IsLegal h → IsDrained d h text → Wrote d.job (held h) (is_whole h) n i w stop gain → EndFacts d h text gain n i w stop
+end_facts d h text gain n i w stop legal drained wrote =
+    let at_end = is_whole h in
+    let all = text ++ gain in
+    let passes = passed_all d h text gain at_end n i drained wrote.passes in
+    let place = place_is d h text gain at_end n i w legal passes in
+    let frames = frames_are d h text gain at_end n i w legal passes in
+    let said = said_all d.job (total h) all at_end (d.place + n) (d.frames + i) stop passes (told_behind d h text at_end n stop drained wrote.stopped) in
+    record {
+      place = place;
+      passes = passes_at d.job (total h) all at_end (d.place + n) (added d n i w).place (d.frames + i) (added d n i w).frames place frames passes;
+      said = said ∙ ap (λ (k : ℕ). record { text = all; verdict = verdict_of stop k }) (sym place);
+      frames = frames ∙ sym (frames_whole d.job (total h) all at_end (d.place + n) (d.frames + i) (verdict_of stop (d.place + n)) passes said);
+      written = capped_sum text gain d.written w drained.counted wrote.counted;
+    }
+
+pub ended : (d : DrainState) (h : List Call) (text gain : List ℕ) (n i w : ℕ) (stop : Stop) (end : DrainEnd) → IsLegal h → EndFacts d h text gain n i w stop → is_verdict_of end (verdict_of stop (added d n i w).place)
+    → Ends d h text gain (EndReader (end_code end) ∷ Advance n (length (held h)) ∷ Read ∷ []) (added d n i w) end
+ended d h text gain n i w stop end legal facts verdict = record {
+  len = length (held h);
+  passed = n;
+  calls_are = refl;
+  lent = held_is h legal;
+  place = facts.place;
+  passes = facts.passes;
+  whole = sym (ap (λ t. t.text) facts.said);
+  verdict = subst (λ (v : Verdict). is_verdict_of end v) (sym (ap (λ t. t.verdict) facts.said)) verdict;
+  frames = facts.frames;
+  written = facts.written;
+}
+
+pub flush_failed : (d : DrainState) (h : List Call) (text gain : List ℕ) (n i w : ℕ) (stop : Stop) → EndFacts d h text gain n i w stop
+    → Fails d h text gain (EndReader 5 ∷ Advance n (length (held h)) ∷ Read ∷ []) (added d n i w)
+flush_failed d h text gain n i w stop facts = record {
+  before = Advance n (length (held h)) ∷ [];
+  calls_are = refl;
+  passed = inr (length (held h), n, refl);
+  front = ([], append-nil (text ++ gain) ∙ sym (ap (λ t. t.text) facts.said));
+  bounded = omega (arith, facts.passes.bounded, facts.passes.within);
+  frames = facts.frames;
+  written = facts.written;
+}
+
+-- a frame of the lend was broken off
+pub record Broke (job : Job) (x : List ℕ) (at_end : Bool) (i w : ℕ) (gain : List ℕ) : Type 0 where
+  pub len : ℕ
+  pub text : List ℕ
+  pub passes : Passes job x at_end len i text
+  pub next : List ℕ
+  pub others : List (List ℕ)
+  pub stands_next : payloads_of job (drop len x) at_end ≡ next ∷ others
+  pub part : List ℕ
+  pub is_part : IsPrefix part (spelling job.output next)
+  pub short : length part < length (spelling job.output next)
+  pub all : gain ≡ text ++ part
+  pub counted : w ≡ capped (length gain)
+  pub bounded : length gain ≤ 5 * length x
+
+pub write_failed : (d : DrainState) (h : List Call) (text gain : List ℕ) (i w : ℕ) → IsLegal h → IsDrained d h text → Broke d.job (held h) (is_whole h) i w gain
+    → Fails d h text gain (EndReader 5 ∷ Read ∷ []) (added d 0 i w)
+write_failed d h text gain i w legal drained broke =
+    let at_end = is_whole h in
+    let passes = passed_all d h text broke.text at_end broke.len i drained broke.passes in
+    let drained_bounded = drained.passes.bounded in
+    let all : text ++ gain ≡ (text ++ broke.text) ++ broke.part = ap (λ (t : List ℕ). text ++ t) broke.all ∙ sym (append_assoc text broke.text broke.part) in
+    let behind_it : drop broke.len (held h) ≡ drop (d.place + broke.len) (total h) = ap (λ (x : List ℕ). drop broke.len x) (rest_of d h text drained) ∙ drop-drop broke.len d.place (total h) in
+    let stands : payloads_of d.job (drop (d.place + broke.len) (total h)) at_end ≡ broke.next ∷ broke.others = ap (λ (x : List ℕ). payloads_of d.job x at_end) (sym behind_it) ∙ broke.stands_next in
+    record {
+      before = [];
+      calls_are = refl;
+      passed = inl refl;
+      front = subst (λ (t : List ℕ). IsPrefix t (translated d.job h).text) (sym all) (front_partial d.job (total h) (text ++ broke.text) at_end (d.place + broke.len) (d.frames + i) broke.next broke.part broke.others passes stands broke.is_part);
+      bounded = omega (arith, drained_bounded, broke.bounded, length-append text gain, held_is h legal, drained.place);
+      frames =
+          frames_are d h text broke.text at_end broke.len i w legal passes
+          ∙ sym (frames_partial d.job (total h) (text ++ broke.text) at_end (d.place + broke.len) (d.frames + i) broke.next broke.part broke.others passes stands broke.short)
+          ∙ ap (λ (t : List ℕ). frames_in d.job (total h) at_end t) (sym all);
+      written = capped_sum text gain d.written w drained.counted broke.counted;
+    }
+
+-- ---- between the steps
+
+pub behind_commit : (d : DrainState) (h : List Call) (text : List ℕ) (runs : List Run) → IsLegal h → IsDrained d h text → IsDrained d (Commit runs ∷ h) text
+behind_commit d h text runs legal drained =
+    let same : looked_at (Commit runs ∷ h) ≡ looked_at h =
+    ap (λ (x : List ℕ). take (examined h) x) (total_commit runs h) ∙ take-append-le (examined h) (total h) (cond (is_none (reader_end h)) (bytes_of runs) []) (ordered h legal).examined_in in
+    record {
+      place = drained.place;
+      passes = subst (λ (x : List ℕ). Passes d.job x false d.place d.frames text) (sym same) drained.passes;
+      rest = ap (λ (x : List ℕ). translation d.job (drop d.place x) false) same ∙ drained.rest;
+      short = omega (arith, drained.short, ap (λ (x : List ℕ). length (drop d.place x)) same);
+      counted = drained.counted;
+    }
+
+pub front_so_far : (d : DrainState) (h : List Call) (text : List ℕ) → IsDrained d h text → IsPrefix text (translated d.job h).text
+front_so_far d h text drained = (
+  (translation d.job (drop d.place (total h)) (is_whole h)).text,
+  sym (ap (λ t. t.text) (passed_text d.job (total h) (is_whole h) d.place d.frames text (so_far d h text (is_whole h) drained))),
+)

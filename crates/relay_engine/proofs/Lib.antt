@@ -1,0 +1,13 @@
+mod CountLemmas
+mod DeviceLemmas
+mod DrainLemmas
+mod FillLemmas
+mod FrameLemmas
+mod PlainLemmas
+mod PumpEndLemmas
+mod PumpFillLemmas
+mod PumpLemmas
+mod StepLemmas
+mod TellLemmas
+mod TextLemmas
+mod WriteLemmas

@@ -1,0 +1,9 @@
+pub mod Frames
+pub mod Text
+pub mod Tell
+pub mod Ends
+pub mod Filler
+pub mod Drainer
+pub mod Passing
+pub mod Ending
+pub mod Pump

@@ -1,0 +1,191 @@
+//! The engine in steps, and as a whole.
+
+ghost use Rattle.std.specs.Prelude.{◌≤◌, ◌^◌};
+ghost use Rattle.frame_model.specs.Job.{IsInRange};
+
+use crate::*;
+use edge_core::{MemSink, MemSource};
+use frame_model::{BadKind, FillEnd, Framing, Job, Outcome, Report};
+use pipe_core::PlainPipe;
+use std::alloc::{AllocError, Global};
+use std::test::Fail;
+
+const TWO_FRAMES: &[u8] = &[0, 0, 0, 2, b'h', b'i', 0, 0, 0, 1, b'a'];
+
+fn job(input: Framing, output: Framing, limit: u64) -> Job
+    requires { limit ≤ 2 ^ 40 }
+    ensures { IsInRange result }
+{
+    Job {
+        input,
+        output,
+        max: 65_536,
+        seg: 4_096,
+        pause: 65_536,
+        resume: 32_768,
+        limit,
+    }
+}
+
+fn source(alloc: Global, content: &[u8]) -> Result<MemSource, AllocError> {
+    Ok(MemSource::make(content.to_vec(alloc)?, Vec::new(alloc), Vec::new(alloc)))
+}
+
+fn sink(alloc: Global, failing_calls: &[u64]) -> Result<MemSink, AllocError> {
+    MemSink::make(alloc, 64, Vec::new(alloc), failing_calls.to_vec(alloc)?)
+}
+
+const BAD_FRAME: Outcome = Outcome::BadFrame {
+    place: 0,
+    kind: BadKind::TooBig { len: 65_537 },
+};
+
+fn report(outcome: Outcome, frames: u64, taken: u64, written: u64) -> Report {
+    Report {
+        outcome,
+        frames,
+        taken,
+        written,
+    }
+}
+
+#[test]
+fn a_step_fills_a_pipe_and_a_step_drains_it(rt: HostRuntime) -> Result<(), Fail> {
+    let alloc = rt.alloc();
+    let mut pipe = PlainPipe::make(alloc, 16, 8, 4)?;
+    let mut source = source(alloc, TWO_FRAMES)?;
+    let mut sink = sink(alloc, &[])?;
+    let mut filler = Filler::new(20, 8);
+    let mut drainer = Drainer::new(&job(Framing::Len4, Framing::Line, 20));
+    let filled = filler.step(&mut pipe, &mut source);
+    assert_eq!(rt; filled, FillStep::Paused { unexamined: 8 });
+    let drained = drainer.step(&mut pipe, &mut sink);
+    assert_eq!(rt; drained, DrainStep::Moved { frames: 1 });
+    assert_eq!(rt; sink.bytes(), b"hi\n".as_slice());
+    assert_eq!(rt;
+        (filler.taken(), drainer.frames(), drainer.written()),
+        (8, 1, 3)
+    );
+    Ok(())
+}
+
+#[test]
+fn a_relay_takes_no_more_than_its_limit(rt: HostRuntime) -> Result<(), Fail> {
+    let alloc = rt.alloc();
+    let cases: [(u64, Report, &[u8]); 3] = [
+        (11, report(Outcome::Clean, 2, 11, 5), b"hi\na\n"),
+        (10, report(Outcome::TooLong, 1, 10, 3), b"hi\n"),
+        (0, report(Outcome::TooLong, 0, 0, 0), b""),
+    ];
+    for (limit, told, text) in cases {
+        let mut source = source(alloc, TWO_FRAMES)?;
+        let mut sink = sink(alloc, &[])?;
+        let job = job(Framing::Len4, Framing::Line, limit);
+        assert_eq!(rt; pump_local(alloc, &mut source, &mut sink, &job)?, told);
+        assert_eq!(rt; sink.bytes(), text);
+    }
+    Ok(())
+}
+
+/// The sink counts its calls, of which the last that is made is the flush, and no piece is empty.
+#[test]
+fn a_sink_is_flushed_once_before_an_end(rt: HostRuntime) -> Result<(), Fail> {
+    let alloc = rt.alloc();
+    let cases: [(&[u8], u64, Outcome, u64); 8] = [
+        (TWO_FRAMES, 5, Outcome::WriteFault, 2),
+        (TWO_FRAMES, 6, Outcome::Clean, 2),
+        (&[0, 0, 0, 0], 2, Outcome::WriteFault, 1),
+        (&[0, 0, 0, 0], 3, Outcome::Clean, 1),
+        (&[0, 0], 1, Outcome::WriteFault, 0),
+        (&[0, 0], 2, Outcome::Truncated { place: 0 }, 0),
+        (&[0, 1, 0, 1], 1, Outcome::WriteFault, 0),
+        (&[0, 1, 0, 1], 2, BAD_FRAME, 0),
+    ];
+    for (input, failing_call, outcome, frames) in cases {
+        let mut source = source(alloc, input)?;
+        let mut sink = sink(alloc, &[failing_call])?;
+        let job = job(Framing::Len4, Framing::Line, 1_000);
+        let report = pump_local(alloc, &mut source, &mut sink, &job)?;
+        assert_eq!(rt; (report.outcome, report.frames), (outcome, frames));
+    }
+    Ok(())
+}
+
+#[test]
+fn a_frame_that_was_broken_off_is_not_counted(rt: HostRuntime) -> Result<(), Fail> {
+    let alloc = rt.alloc();
+    let cases: [(u64, u64, u64); 4] = [(1, 0, 0), (2, 0, 2), (3, 1, 3), (4, 1, 4)];
+    for (failing_call, frames, written) in cases {
+        let mut source = source(alloc, TWO_FRAMES)?;
+        let mut sink = sink(alloc, &[failing_call])?;
+        let job = job(Framing::Len4, Framing::Line, 1_000);
+        let told = report(Outcome::WriteFault, frames, 11, written);
+        assert_eq!(rt; pump_local(alloc, &mut source, &mut sink, &job)?, told);
+    }
+    Ok(())
+}
+
+#[test]
+fn an_outcome_has_an_order_a_status_and_a_line(rt: HostRuntime) -> Result<(), Fail> {
+    let alloc = rt.alloc();
+    let bad = DrainEnd::Bad {
+        place: 5,
+        kind: BadKind::Unspellable { at: 1 },
+    };
+    let cases: [(FillEnd, DrainEnd, u8, &[u8]); 7] = [
+        (FillEnd::End, DrainEnd::Clean, 0, b""),
+        (FillEnd::Fault, bad, 2, b"bad frame at 5: byte 1\n"),
+        (
+            FillEnd::End,
+            DrainEnd::Rest { place: 6 },
+            3,
+            b"truncated at 6\n",
+        ),
+        (
+            FillEnd::Fault,
+            DrainEnd::Stopped,
+            4,
+            b"read fault after 7\n",
+        ),
+        (
+            FillEnd::Fault,
+            DrainEnd::SinkFault,
+            5,
+            b"write fault after 4\n",
+        ),
+        (
+            FillEnd::Gone { code: 5 },
+            DrainEnd::SinkFault,
+            5,
+            b"write fault after 4\n",
+        ),
+        (FillEnd::Long, DrainEnd::Stopped, 7, b"too long\n"),
+    ];
+    for (fill, drain, status, line) in cases {
+        let outcome = outcome_of(fill, drain);
+        assert_eq!(rt; status_of(outcome), status);
+        let mut faults = sink(alloc, &[])?;
+        let told = Told::Relay {
+            report: report(outcome, 1, 7, 4),
+        };
+        assert_eq!(rt; tell(&mut faults, told), Ok(()));
+        assert_eq!(rt; faults.bytes(), line);
+    }
+    Ok(())
+}
+
+#[test]
+fn other_lines(rt: HostRuntime) -> Result<(), Fail> {
+    let alloc = rt.alloc();
+    let cases: [(Told, &[u8]); 3] = [
+        (Told::Usage { word: 0 }, b"usage: word 0\n"),
+        (Told::Memory, b"out of memory\n"),
+        (Told::Door { word: 12 }, b"door fault at word 12\n"),
+    ];
+    for (told, line) in cases {
+        let mut faults = sink(alloc, &[])?;
+        assert_eq!(rt; tell(&mut faults, told), Ok(()));
+        assert_eq!(rt; faults.bytes(), line);
+    }
+    Ok(())
+}

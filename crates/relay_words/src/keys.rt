@@ -1,0 +1,116 @@
+//! The keys behind the framings.
+
+ghost use Rattle.std.specs.Prelude.{◌≡◌, ◌&&◌, nat_le, option_and_then, ◌+◌, ◌∷◌, [], ℕ, List, Some, None, Ok, Err, if◌then◌else◌, length};
+ghost use Rattle.relay_words.specs.Numbers.{number_of};
+ghost use Rattle.relay_words.specs.Keys.{adds, given_by as given_by_of, is_new as is_new_of, keys_among, keys_with, number_of_key as number_of_key_of};
+ghost use Rattle.relay_words.specs.Words.{misplaced, texts};
+
+use crate::number::read_number;
+
+/// The number of a key that is given.
+#[derive(Clone, Copy)]
+pub struct Given {
+    pub number: u64,
+    /// The index of its word.
+    pub word: usize,
+}
+
+/// The keys that are given.
+#[derive(Clone, Copy)]
+pub struct Keys {
+    pub max: Option<Given>,
+    pub seg: Option<Given>,
+    pub pause: Option<Given>,
+    pub resume: Option<Given>,
+}
+
+/// The keys of a command of `count` words, or the index of the first that can't be read where it stands.
+pub fn keys_in(keys: &[String], count: usize) -> Result<Keys, usize>
+    requires { count ≡ 3 + length keys.now }
+    ensures { (command input output : List ℕ) → result ≡ elim (misplaced (command ∷ input ∷ output ∷ []) (texts keys.now)) [ None ↦ Ok (keys_among (texts keys.now)) | Some at ↦ Err at ] }
+{
+    let mut given = Keys {
+        max: None,
+        seg: None,
+        pause: None,
+        resume: None,
+    };
+    let mut rest = keys;
+    while let Some((word, behind)) = rest.split_first() {
+        let at = count - rest.len();
+        let Some(more) = given.with(word.as_str(), at) else {
+            return Err(at);
+        };
+        given = more;
+        rest = behind;
+    }
+    Ok(given)
+}
+
+impl Keys {
+    /// These keys and that of a word, where it is a key that isn't given yet.
+    fn with(self, word: &str, at: usize) -> Option<Keys>
+        ensures { result ≡ if adds self word.now then Some (keys_with at word.now self) else None }
+    {
+        let max = number_of_key("max=", 0, 16_777_216, word);
+        let seg = number_of_key("seg=", 64, 65_536, word);
+        let pause = number_of_key("pause=", 0, 16_777_216, word);
+        let resume = number_of_key("resume=", 1, 16_777_216, word);
+        if is_new(max, self.max)
+            || is_new(seg, self.seg)
+            || is_new(pause, self.pause)
+            || is_new(resume, self.resume)
+        {
+            Some(Keys {
+                max: given_by(at, max, self.max),
+                seg: given_by(at, seg, self.seg),
+                pause: given_by(at, pause, self.pause),
+                resume: given_by(at, resume, self.resume),
+            })
+        } else {
+            None
+        }
+    }
+}
+
+fn is_new(number: Option<u64>, before: Option<Given>) -> bool
+    ensures { result ≡ is_new_of number before }
+{
+    number.is_some() && before.is_none()
+}
+
+fn given_by(at: usize, number: Option<u64>, before: Option<Given>) -> Option<Given>
+    ensures { result ≡ given_by_of at number before }
+{
+    match number {
+        None => before,
+        Some(number) => Some(Given { number, word: at }),
+    }
+}
+
+/// The number of a word NAME=NUMBER, where it is in its range.
+fn number_of_key(name: &str, least: u64, greatest: u64, word: &str) -> Option<u64>
+    ensures { result ≡ number_of_key_of name.now least greatest word.now }
+{
+    match word.strip_prefix(name) {
+        Some(number) => number_within(least, greatest, number),
+        None => None,
+    }
+}
+
+fn number_within(least: u64, greatest: u64, word: &str) -> Option<u64>
+    ensures { result ≡ option_and_then (λ n. if nat_le least n && nat_le n greatest then Some n else None) (number_of word.now) }
+{
+    let number = read_number(word)?;
+    if is_within(least, greatest, number) {
+        Some(number)
+    } else {
+        None
+    }
+}
+
+fn is_within(least: u64, greatest: u64, number: u64) -> bool
+    ensures { result ≡ (nat_le least number && nat_le number greatest) }
+{
+    least <= number && number <= greatest
+}
