@@ -10,3 +10,4 @@ program=crates/relay/out/relay
 (cd crates/relay && rt run -- --version)
 python3 -B checks/relay.py "$PWD/$program"
 python3 -B checks/memory.py "$PWD/$program"
+python3 -B checks/long_line.py "$PWD/$program"

@@ -2,21 +2,23 @@
 
 ghost use Rattle.std.specs.Prelude.{◌≡◌, ◌+◌, nat_lt, if◌then◌else◌, MatchOption, Ok, Err, None, Some};
 ghost use Rattle.frame_model.specs.Spelling.{Fits, head_of, obstacle, tail_of};
+ghost use Rattle.span_seq.specs.Sequence.{bytes};
 
 use crate::affix::Affix;
 use crate::line_feed::{LINE_FEED, first_line_feed};
 use frame_model::{BadKind, Framing};
+use span_seq::{Sequence, Spans};
 
 /// Whether a payload has a frame. The refusal is always `Unspellable`, at the index of the first byte for which it has none:
 /// a line feed in a line, and the first byte that is one too many for the head of a counted frame.
-pub fn can_spell(framing: Framing, payload: &[u8]) -> Result<(), BadKind>
-    ensures { MatchOption (obstacle framing payload.now) (result ≡ Ok tt) (λ at. result ≡ Err (BadKind.Unspellable at)) }
+pub fn can_spell<C: Spans>(framing: Framing, payload: &Sequence<'_, C>) -> Result<(), BadKind>
+    ensures { MatchOption (obstacle framing (bytes payload.now)) (result ≡ Ok tt) (λ at. result ≡ Err (BadKind.Unspellable at)) }
 {
-    let len = payload.len() as u64;
+    let len = payload.len();
     let obstacle = match framing {
         Framing::Len4 => first_past(len, u64::from(u32::MAX)),
         Framing::Len2 => first_past(len, u64::from(u16::MAX)),
-        Framing::Line => first_line_feed(payload).map(|at| at as u64),
+        Framing::Line => first_line_feed(payload, 0),
     };
     match obstacle {
         Some(at) => Err(BadKind::Unspellable { at }),

@@ -1,6 +1,34 @@
 //! What the functions answer on known inputs.
 
+ghost use Rattle.std.specs.Prelude.{[], ◌∷◌};
+
 use crate::*;
+use span_seq::{One, Sequence, Spans};
+use std::process::Abort;
+
+/// Bytes in three spans, some of which may be empty.
+#[derive(Clone, Copy)]
+struct Pieces<'a> {
+    front: &'a [u8],
+    middle: &'a [u8],
+    back: &'a [u8],
+}
+
+impl Spans for Pieces<'_> {
+    ghost spans = { λ pieces. pieces.front.now ∷ pieces.middle.now ∷ pieces.back.now ∷ [] };
+
+    fn count(&self) -> usize {
+        3
+    }
+
+    fn span(&self, index: usize) -> &[u8] {
+        match index {
+            0 => self.front,
+            1 => self.middle,
+            _ => self.back,
+        }
+    }
+}
 
 fn frame(from: u64, to: u64, end: u64) -> Cut {
     Cut::Frame { from, to, end }
@@ -8,6 +36,22 @@ fn frame(from: u64, to: u64, end: u64) -> Cut {
 
 fn too_big(len: u64) -> Cut {
     Cut::Bad(BadKind::TooBig { len })
+}
+
+/// Cuts the first frame off bytes that lie in spans which end at any two places.
+fn check_cut(rt: &impl Abort, framing: Framing, max: u64, bytes: &[u8], at_end: bool, want: Cut) {
+    assert!(rt; bytes.len() <= 8);
+    for first in 0..bytes.len() + 1 {
+        for second in first..bytes.len() + 1 {
+            let pieces = Pieces {
+                front: &bytes[..first],
+                middle: &bytes[first..second],
+                back: &bytes[second..],
+            };
+            let cut = next_frame(framing, max, &Sequence::whole(&pieces), 0, at_end);
+            assert_eq!(rt; cut, want, "spans up to {first} and {second}");
+        }
+    }
 }
 
 #[test]
@@ -46,23 +90,30 @@ fn next_frame_cuts_these_inputs(rt: HostRuntime) {
         (Framing::Line, 0, &[97], true, too_big(1)),
         (Framing::Line, u64::MAX, &[97], true, frame(0, 1, 1)),
     ];
-    for (at, (framing, max, bytes, at_end, want)) in cases.into_iter().enumerate() {
-        assert_eq!(rt; next_frame(framing, max, bytes, at_end), want, "input {at}");
+    for (framing, max, bytes, at_end, want) in cases {
+        check_cut(&rt, framing, max, bytes, at_end, want);
     }
 }
 
 #[test]
 fn can_spell_refuses_a_line_feed_and_a_length_too_many(rt: HostRuntime) {
-    let long = [97; 65536];
+    let bytes = [97; 65536];
+    let long = One(&bytes);
+    let long = Sequence::whole(&long);
     assert_eq!(rt; can_spell(Framing::Len4, &long), Ok(()));
-    assert_eq!(rt; can_spell(Framing::Len2, &long[..65535]), Ok(()));
+    assert_eq!(rt; can_spell(Framing::Len2, &long.without_front(1)), Ok(()));
     assert_eq!(rt;
         can_spell(Framing::Len2, &long),
         Err(BadKind::Unspellable { at: 65535 })
     );
     assert_eq!(rt; can_spell(Framing::Line, &long), Ok(()));
+    let pieces = Pieces {
+        front: b"",
+        middle: b"a",
+        back: b"\n\n",
+    };
     assert_eq!(rt;
-        can_spell(Framing::Line, b"a\n\n"),
+        can_spell(Framing::Line, &Sequence::whole(&pieces)),
         Err(BadKind::Unspellable { at: 1 })
     );
 }

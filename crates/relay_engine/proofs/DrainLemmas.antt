@@ -1,15 +1,17 @@
 -- What a lend is, and what the frames of it come to in all that is committed.
-use Rattle.std.proofs.Common.{◌≡◌, ◌≢◌, ◌<◌, ◌≤◌, ◌+◌, ◌*◌, ◌^◌, ℕ, Bool, true, false, cond, List, [], ◌∷◌, ◌++◌, length, take, drop, Option, Some, None, refl, sym, ap, ◌∙◌, subst, append-nil, append_assoc, arith, add-zero, inl, inr, ◌⊎◌}
+use Rattle.std.specs.List.{AllByRecursion as All, position_or_len}
+use Rattle.std.proofs.Common.{not, ◌≡◌, ◌≢◌, ◌<◌, ◌≤◌, ◌+◌, ◌-◌, ◌*◌, ◌^◌, IsNone, position, ℕ, Bool, true, false, cond, List, [], ◌∷◌, ◌++◌, length, take, drop, Option, Some, None, refl, sym, ap, ◌∙◌, subst, append-nil, append_assoc, arith, add-zero, inl, inr, ◌⊎◌}
 use Rattle.std.specs.Prelude.{is_none, max, unwrap_or}
 use Rattle.std.proofs.lemmas.Grind.{flat_map-append}
 use mathlib.Core.List.{IsPrefix}
 use Rattle.std.proofs.lemmas.Bool.Decides.{Decides-eqb}
-use Rattle.std.proofs.lemmas.List.{length-append, length-drop, take-append-drop, drop-append-le, drop-drop, take-append-le, take_all}
+use Rattle.std.proofs.lemmas.Bool.{cases_lt}
+use Rattle.std.proofs.lemmas.List.{length-append, length-drop, length-take, take-append-drop, drop-append-le, drop-drop, take-append-le, take_all}
 use Rattle.frame_model.specs.declared.framing.Framing.{Framing}
 use Rattle.frame_model.specs.declared.framing.Framing.TheVariants.{Len4, Len2, Line}
 use Rattle.frame_model.specs.declared.framing.BadKind.{BadKind}
 use Rattle.frame_model.specs.declared.job.Job.{Job}
-use Rattle.frame_model.specs.Spelling.{spelling, text as text_of}
+use Rattle.frame_model.specs.Spelling.{is_line_feed, spelling, text as text_of}
 use Rattle.frame_model.specs.Cut.{Verdict, Open, End, Rest, Bad, moved}
 use Rattle.frame_model.specs.Translation.{translation, behind}
 use Rattle.frame_model.specs.Ending.{frames_written}
@@ -18,16 +20,18 @@ use Rattle.frame_model.proofs.FrameLemmas.{spelling_len}
 use Rattle.relay_model.specs.Run.{frames_in, payloads_of}
 use Rattle.pipe_core.specs.declared.reply.ReadReply.{ReadReply}
 use Rattle.pipe_core.specs.declared.reply.ReadReply.TheVariants as read
-use Rattle.pipe_core.specs.History.{Call, Run, Commit, Read, Advance, EndReader, bytes_of, reader_end, writer_end}
+use Rattle.pipe_core.specs.History.{Call, Run, Commit, EndWriter, Read, Advance, EndReader, CancelRead, CancelFlush, bytes_of, reader_end, writer_end}
 use Rattle.pipe_core.specs.Progress.{total, consumed, examined, held, canceled_read}
 use Rattle.pipe_core.specs.Reads.{read_is_ready, reply_to_read}
 use Rattle.pipe_core.specs.Lends.{lend}
-use Rattle.pipe_core.specs.Legal.{IsLegal}
+use Rattle.pipe_core.specs.Legal.{IsLegal, seat_of}
+use Rattle.span_seq.proofs.ScanLemmas.{at_none, position_past, stopped}
+use Rattle.std.proofs.lemmas.List.Sums.{prefix_len-le-length}
 use Rattle.pipe_core.proofs.OrderLemmas.{ordered, seen_all, total_commit}
 use Rattle.relay_engine.specs.Frames.{Passes, StopsAt, capped, verdict_of}
 use Rattle.relay_engine.specs.Drainer.{DrainState, Ends, Fails, IsAsked, IsDrained, Passed, Rests, end_code, is_success, is_whole, looked_at, translated}
 use Rattle.relay_engine.specs.Drainer.{verdict_of as is_verdict_of}
-use Rattle.relay_engine.specs.Passing.{added, end_at}
+use Rattle.relay_engine.specs.Passing.{IsKnown, added, end_at}
 use Rattle.relay_engine.specs.declared.drainer.DrainEnd.{DrainEnd}
 use Rattle.relay_engine.specs.declared.drainer.DrainEnd.TheVariants as ends
 use Rattle.relay_engine.specs.declared.drainer.DrainStep.TheVariants.{Done}
@@ -196,11 +200,11 @@ front_partial job x text at_end n i next part others passes stands front =
 legal_total : (h : List Call) → IsLegal h → length (total h) ≤ 2 ^ 62
 legal_total h legal = (ordered h legal).total_in
 
-place_is : (d : DrainState) (h : List Call) (text gain : List ℕ) (at_end : Bool) (n i w : ℕ) → IsLegal h → Passes d.job (total h) at_end (d.place + n) (d.frames + i) (text ++ gain) → (added d n i w).place ≡ d.place + n
-place_is d h text gain at_end n i w legal passes = capped_small (d.place + n) (omega (arith, passes.within, legal_total h legal))
+place_is : (d : DrainState) (h : List Call) (text gain : List ℕ) (at_end : Bool) (n i w r : ℕ) → IsLegal h → Passes d.job (total h) at_end (d.place + n) (d.frames + i) (text ++ gain) → (added d n i w r).place ≡ d.place + n
+place_is d h text gain at_end n i w r legal passes = capped_small (d.place + n) (omega (arith, passes.within, legal_total h legal))
 
-frames_are : (d : DrainState) (h : List Call) (text gain : List ℕ) (at_end : Bool) (n i w : ℕ) → IsLegal h → Passes d.job (total h) at_end (d.place + n) (d.frames + i) (text ++ gain) → (added d n i w).frames ≡ d.frames + i
-frames_are d h text gain at_end n i w legal passes = capped_small (d.frames + i) (omega (arith, passes.few, passes.within, legal_total h legal))
+frames_are : (d : DrainState) (h : List Call) (text gain : List ℕ) (at_end : Bool) (n i w r : ℕ) → IsLegal h → Passes d.job (total h) at_end (d.place + n) (d.frames + i) (text ++ gain) → (added d n i w r).frames ≡ d.frames + i
+frames_are d h text gain at_end n i w r legal passes = capped_small (d.frames + i) (omega (arith, passes.few, passes.within, legal_total h legal))
 
 passes_at : (job : Job) (x text : List ℕ) (at_end : Bool) (n n' i i' : ℕ) → n' ≡ n → i' ≡ i → Passes job x at_end n i text → Passes job x at_end n' i' text
 passes_at job x text at_end n n' i i' same_n same_i passes =
@@ -215,7 +219,7 @@ rests d h text n legal reply drained =
       none = refl;
       drainer = refl;
       all_seen = seen;
-      drained = record { place = drained.place; passes = drained.passes; rest = drained.rest; short = drained.short; counted = drained.counted };
+      drained = record { place = drained.place; passes = drained.passes; rest = drained.rest; short = drained.short; counted = drained.counted; known = drained.known; unended = drained.unended };
       whole =
           sym (ap (λ t. t.text) (said_all d.job (looked_at h) text false d.place d.frames stops.More drained.passes drained.rest))
           ∙ ap (λ (x : List ℕ). (translation d.job x false).text) all;
@@ -228,18 +232,18 @@ pub record Wrote (job : Job) (x : List ℕ) (at_end : Bool) (n i w : ℕ) (stop 
   pub stopped : StopsAt job (drop n x) at_end stop
 
 -- the frames of a lend behind which more is wanted
-pub passed_on : (d : DrainState) (h : List Call) (text gain : List ℕ) (n i w : ℕ) → IsLegal h → IsDrained d h text → Wrote d.job (held h) false n i w stops.More gain
-    → Passed d h text gain (Advance n (length (held h)) ∷ Read ∷ []) (added d n i w) i
-passed_on d h text gain n i w legal drained drains =
+pub passed_on : (d : DrainState) (h : List Call) (text gain : List ℕ) (n i w r : ℕ) → r ≡ length (held h) - n → IsLegal h → IsDrained d h text → Wrote d.job (held h) false n i w stops.More gain
+    → Passed d h text gain (Advance n (length (held h)) ∷ Read ∷ []) (added d n i w r) i
+passed_on d h text gain n i w r left legal drained drains =
     let len = length (held h) in
     let all = text ++ gain in
     let passes = passed_all d h text gain false n i drained drains.passes in
-    let place = place_is d h text gain false n i w legal passes in
-    let frames = frames_are d h text gain false n i w legal passes in
+    let place = place_is d h text gain false n i w r legal passes in
+    let frames = frames_are d h text gain false n i w r legal passes in
     let whole = held_is h legal in
     let seen : take (max (examined h) (consumed h + len)) (total h) ≡ total h = take_all (max (examined h) (consumed h + len)) (total h) (omega (arith, whole)) in
     let told = told_behind d h text false n stops.More drained drains.stopped in
-    let rest : drop (added d n i w).place (take (max (examined h) (consumed h + len)) (total h)) ≡ drop (d.place + n) (total h) = ap (λ (k : ℕ). drop k (take (max (examined h) (consumed h + len)) (total h))) place ∙ ap (λ (x : List ℕ). drop (d.place + n) x) seen in
+    let rest : drop (added d n i w r).place (take (max (examined h) (consumed h + len)) (total h)) ≡ drop (d.place + n) (total h) = ap (λ (k : ℕ). drop k (take (max (examined h) (consumed h + len)) (total h))) place ∙ ap (λ (x : List ℕ). drop (d.place + n) x) seen in
     let behind_it : drop (d.place + n) (total h) ≡ drop n (held h) = sym (ap (λ (x : List ℕ). drop n x) (rest_of d h text drained) ∙ drop-drop n d.place (total h)) in
     record {
       len = len;
@@ -248,10 +252,12 @@ passed_on d h text gain n i w legal drained drains =
       lent = whole;
       drained = record {
         place = place ∙ ap (λ (k : ℕ). k + n) drained.place;
-        passes = subst (λ (x : List ℕ). Passes d.job x false (added d n i w).place (added d n i w).frames all) (sym seen) (passes_at d.job (total h) all false (d.place + n) (added d n i w).place (d.frames + i) (added d n i w).frames place frames passes);
+        passes = subst (λ (x : List ℕ). Passes d.job x false (added d n i w r).place (added d n i w r).frames all) (sym seen) (passes_at d.job (total h) all false (d.place + n) (added d n i w r).place (d.frames + i) (added d n i w r).frames place frames passes);
         rest = ap (λ (x : List ℕ). translation d.job x false) rest ∙ told;
         short = omega (arith, ap length (rest ∙ behind_it), drains.stopped.short refl);
         counted = capped_sum text gain d.written w drained.counted drains.counted;
+        known = omega (arith, left, ap length (rest ∙ behind_it), length-drop n (held h));
+        unended = λ line. subst (λ (x : List ℕ). IsNone (position is_line_feed x)) (sym (rest ∙ behind_it)) (drains.stopped.unended refl line);
       };
       counted = frames;
       whole = sym (ap (λ t. t.text) (said_all d.job (total h) all false (d.place + n) (d.frames + i) stops.More passes told));
@@ -323,32 +329,32 @@ goes_on_so stops.End ended place at = absurd cc
 goes_on_so stops.More (Some code) place at = absurd cc
 goes_on_so stops.More None place at = (refl, refl)
 
-pub record EndFacts (d : DrainState) (h : List Call) (text gain : List ℕ) (n i w : ℕ) (stop : Stop) : Type 0 where
-  pub place : (added d n i w).place ≡ d.place + n
-  pub passes : Passes d.job (total h) (is_whole h) (added d n i w).place (added d n i w).frames (text ++ gain)
-  pub said : translated d.job h ≡ record { text = text ++ gain; verdict = verdict_of stop (added d n i w).place }
-  pub frames : (added d n i w).frames ≡ frames_in d.job (total h) (is_whole h) (text ++ gain)
-  pub written : (added d n i w).written ≡ capped (length (text ++ gain))
+pub record EndFacts (d : DrainState) (h : List Call) (text gain : List ℕ) (n i w r : ℕ) (stop : Stop) : Type 0 where
+  pub place : (added d n i w r).place ≡ d.place + n
+  pub passes : Passes d.job (total h) (is_whole h) (added d n i w r).place (added d n i w r).frames (text ++ gain)
+  pub said : translated d.job h ≡ record { text = text ++ gain; verdict = verdict_of stop (added d n i w r).place }
+  pub frames : (added d n i w r).frames ≡ frames_in d.job (total h) (is_whole h) (text ++ gain)
+  pub written : (added d n i w r).written ≡ capped (length (text ++ gain))
 
-pub end_facts : (d : DrainState) (h : List Call) (text gain : List ℕ) (n i w : ℕ) (stop : Stop) → IsLegal h → IsDrained d h text → Wrote d.job (held h) (is_whole h) n i w stop gain → EndFacts d h text gain n i w stop
-end_facts d h text gain n i w stop legal drained wrote =
+pub end_facts : (d : DrainState) (h : List Call) (text gain : List ℕ) (n i w r : ℕ) (stop : Stop) → IsLegal h → IsDrained d h text → Wrote d.job (held h) (is_whole h) n i w stop gain → EndFacts d h text gain n i w r stop
+end_facts d h text gain n i w r stop legal drained wrote =
     let at_end = is_whole h in
     let all = text ++ gain in
     let passes = passed_all d h text gain at_end n i drained wrote.passes in
-    let place = place_is d h text gain at_end n i w legal passes in
-    let frames = frames_are d h text gain at_end n i w legal passes in
+    let place = place_is d h text gain at_end n i w r legal passes in
+    let frames = frames_are d h text gain at_end n i w r legal passes in
     let said = said_all d.job (total h) all at_end (d.place + n) (d.frames + i) stop passes (told_behind d h text at_end n stop drained wrote.stopped) in
     record {
       place = place;
-      passes = passes_at d.job (total h) all at_end (d.place + n) (added d n i w).place (d.frames + i) (added d n i w).frames place frames passes;
+      passes = passes_at d.job (total h) all at_end (d.place + n) (added d n i w r).place (d.frames + i) (added d n i w r).frames place frames passes;
       said = said ∙ ap (λ (k : ℕ). record { text = all; verdict = verdict_of stop k }) (sym place);
       frames = frames ∙ sym (frames_whole d.job (total h) all at_end (d.place + n) (d.frames + i) (verdict_of stop (d.place + n)) passes said);
       written = capped_sum text gain d.written w drained.counted wrote.counted;
     }
 
-pub ended : (d : DrainState) (h : List Call) (text gain : List ℕ) (n i w : ℕ) (stop : Stop) (end : DrainEnd) → IsLegal h → EndFacts d h text gain n i w stop → is_verdict_of end (verdict_of stop (added d n i w).place)
-    → Ends d h text gain (EndReader (end_code end) ∷ Advance n (length (held h)) ∷ Read ∷ []) (added d n i w) end
-ended d h text gain n i w stop end legal facts verdict = record {
+pub ended : (d : DrainState) (h : List Call) (text gain : List ℕ) (n i w r : ℕ) (stop : Stop) (end : DrainEnd) → IsLegal h → EndFacts d h text gain n i w r stop → is_verdict_of end (verdict_of stop (added d n i w r).place)
+    → Ends d h text gain (EndReader (end_code end) ∷ Advance n (length (held h)) ∷ Read ∷ []) (added d n i w r) end
+ended d h text gain n i w r stop end legal facts verdict = record {
   len = length (held h);
   passed = n;
   calls_are = refl;
@@ -361,9 +367,9 @@ ended d h text gain n i w stop end legal facts verdict = record {
   written = facts.written;
 }
 
-pub flush_failed : (d : DrainState) (h : List Call) (text gain : List ℕ) (n i w : ℕ) (stop : Stop) → EndFacts d h text gain n i w stop
-    → Fails d h text gain (EndReader 5 ∷ Advance n (length (held h)) ∷ Read ∷ []) (added d n i w)
-flush_failed d h text gain n i w stop facts = record {
+pub flush_failed : (d : DrainState) (h : List Call) (text gain : List ℕ) (n i w r : ℕ) (stop : Stop) → EndFacts d h text gain n i w r stop
+    → Fails d h text gain (EndReader 5 ∷ Advance n (length (held h)) ∷ Read ∷ []) (added d n i w r)
+flush_failed d h text gain n i w r stop facts = record {
   before = Advance n (length (held h)) ∷ [];
   calls_are = refl;
   passed = inr (length (held h), n, refl);
@@ -389,7 +395,7 @@ pub record Broke (job : Job) (x : List ℕ) (at_end : Bool) (i w : ℕ) (gain : 
   pub bounded : length gain ≤ 5 * length x
 
 pub write_failed : (d : DrainState) (h : List Call) (text gain : List ℕ) (i w : ℕ) → IsLegal h → IsDrained d h text → Broke d.job (held h) (is_whole h) i w gain
-    → Fails d h text gain (EndReader 5 ∷ Read ∷ []) (added d 0 i w)
+    → Fails d h text gain (EndReader 5 ∷ Read ∷ []) (added d 0 i w d.known)
 write_failed d h text gain i w legal drained broke =
     let at_end = is_whole h in
     let passes = passed_all d h text broke.text at_end broke.len i drained broke.passes in
@@ -404,7 +410,7 @@ write_failed d h text gain i w legal drained broke =
       front = subst (λ (t : List ℕ). IsPrefix t (translated d.job h).text) (sym all) (front_partial d.job (total h) (text ++ broke.text) at_end (d.place + broke.len) (d.frames + i) broke.next broke.part broke.others passes stands broke.is_part);
       bounded = omega (arith, drained_bounded, broke.bounded, length-append text gain, held_is h legal, drained.place);
       frames =
-          frames_are d h text broke.text at_end broke.len i w legal passes
+          frames_are d h text broke.text at_end broke.len i w d.known legal passes
           ∙ sym (frames_partial d.job (total h) (text ++ broke.text) at_end (d.place + broke.len) (d.frames + i) broke.next broke.part broke.others passes stands broke.short)
           ∙ ap (λ (t : List ℕ). frames_in d.job (total h) at_end t) (sym all);
       written = capped_sum text gain d.written w drained.counted broke.counted;
@@ -422,7 +428,71 @@ behind_commit d h text runs legal drained =
       rest = ap (λ (x : List ℕ). translation d.job (drop d.place x) false) same ∙ drained.rest;
       short = omega (arith, drained.short, ap (λ (x : List ℕ). length (drop d.place x)) same);
       counted = drained.counted;
+      known = omega (arith, drained.known, ap (λ (x : List ℕ). length (drop d.place x)) same);
+      unended = λ line. subst (λ (x : List ℕ). IsNone (position is_line_feed (drop d.place x))) (sym same) (drained.unended line);
     }
+
+behind_call : (d : DrainState) (h : List Call) (text : List ℕ) (call : Call) → seat_of call ≢ 1 → IsLegal h → IsDrained d h text → IsDrained d (call ∷ h) text
+behind_call d h text (Commit runs) other legal drained = behind_commit d h text runs legal drained
+behind_call d h text (EndWriter code) other legal drained = record { place = drained.place; passes = drained.passes; rest = drained.rest; short = drained.short; counted = drained.counted; known = drained.known; unended = drained.unended }
+behind_call d h text Read other legal drained = absurd (other refl)
+behind_call d h text (Advance c e) other legal drained = absurd (other refl)
+behind_call d h text (EndReader code) other legal drained = absurd (other refl)
+behind_call d h text CancelRead other legal drained = record { place = drained.place; passes = drained.passes; rest = drained.rest; short = drained.short; counted = drained.counted; known = drained.known; unended = drained.unended }
+behind_call d h text CancelFlush other legal drained = record { place = drained.place; passes = drained.passes; rest = drained.rest; short = drained.short; counted = drained.counted; known = drained.known; unended = drained.unended }
+
+legal_rest : (calls h : List Call) → IsLegal (calls ++ h) → IsLegal h
+legal_rest [] h legal = legal
+legal_rest (call ∷ calls) h legal = legal_rest calls h legal.0
+
+pub behind_others : (d : DrainState) (h : List Call) (text : List ℕ) (calls : List Call) → All (λ call. seat_of call ≢ 1) calls → IsLegal (calls ++ h) → IsDrained d h text → IsDrained d (calls ++ h) text
+behind_others d h text [] others legal drained = drained
+behind_others d h text (call ∷ calls) others legal drained =
+    behind_call d (calls ++ h) text call others.0 legal.0 (behind_others d h text calls others.1 legal.0 drained)
+
+pub writers_are_others : (calls : List Call) → All (λ call. seat_of call ≡ 0) calls → All (λ call. seat_of call ≢ 1) calls
+writers_are_others [] all = tt
+writers_are_others (call ∷ calls) all = (λ one. absurd (omega (arith, all.0, one)), writers_are_others calls all.1)
+
+-- ---- what is known of a lend
+
+none_in_front : (x y : List ℕ) (k : ℕ) → k ≤ length x → IsNone (position is_line_feed x) → IsNone (position is_line_feed (take k (x ++ y)))
+none_in_front x y k within none =
+    let all = at_none is_line_feed x (none_is (position is_line_feed x) none) in
+    let front : take k (x ++ y) ≡ take k x = take-append-le k x y within in
+    subst (λ (z : List ℕ). IsNone (position is_line_feed z)) (sym front)
+    (subst (λ (o : Option ℕ). IsNone o) (sym (position_past is_line_feed (take k x) (front_len x k within all))) refl)
+  where
+    none_is : (o : Option ℕ) → IsNone o → o ≡ None
+    none_is None none = refl
+    none_is (Some at) none = absurd cc
+
+    front_len : (x : List ℕ) (k : ℕ) → k ≤ length x → position_or_len is_line_feed x ≡ length x → position_or_len is_line_feed (take k x) ≡ length (take k x)
+    front_len x k within all = elim (cases_lt (position_or_len is_line_feed (take k x)) (length (take k x))) [
+      | inl lt ↦
+          let same : position_or_len is_line_feed x ≡ position_or_len is_line_feed (take k x) =
+          ap (λ (z : List ℕ). position_or_len is_line_feed z) (sym (take-append-drop k x)) ∙ stopped is_line_feed (take k x) (drop k x) lt in
+          absurd (omega (arith, lt, same, all, length-take k x, within))
+      | inr ge ↦ omega (arith, ge, prefix_len-le-length (λ b. not (is_line_feed b)) (take k x))
+    ]
+
+pub lent_small : (h : List Call) (lent : List ℕ) → IsLegal h → lend h ≡ Some lent → length lent ≤ 2 ^ 62
+lent_small h lent legal is =
+    let order = ordered h legal in
+    omega (arith, order.lent_in lent is, order.total_in)
+
+pub known_lend : (d : DrainState) (h : List Call) (text : List ℕ) → IsLegal h → IsDrained d h text → IsKnown d (Read ∷ h)
+known_lend d h text legal drained lent is =
+    let same : lent ≡ drop d.place (looked_at h) ++ drop (examined h) (total h) = lent_is_held h lent is ∙ rest_and_more d h text drained in (
+      omega (arith, drained.known, ap length same, length-append (drop d.place (looked_at h)) (drop (examined h) (total h))),
+      λ line. subst (λ (x : List ℕ). IsNone (position is_line_feed (take d.known x))) (sym same) (none_in_front (drop d.place (looked_at h)) (drop (examined h) (total h)) d.known drained.known (drained.unended line)),
+    )
+  where
+    rest_and_more : (d : DrainState) (h : List Call) (text : List ℕ) → IsDrained d h text → held h ≡ drop d.place (looked_at h) ++ drop (examined h) (total h)
+    rest_and_more d h text drained =
+        rest_of d h text drained
+        ∙ ap (λ (x : List ℕ). drop d.place x) (sym (take-append-drop (examined h) (total h)))
+        ∙ drop-append-le d.place (looked_at h) (drop (examined h) (total h)) drained.passes.within
 
 pub front_so_far : (d : DrainState) (h : List Call) (text : List ℕ) → IsDrained d h text → IsPrefix text (translated d.job h).text
 front_so_far d h text drained = (

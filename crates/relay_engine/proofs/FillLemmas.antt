@@ -8,6 +8,8 @@ use Rattle.pipe_core.specs.declared.reply.FlushReply.{FlushReply}
 use Rattle.pipe_core.specs.declared.reply.FlushReply.TheVariants as flush
 use Rattle.pipe_core.specs.History.{Call, Commit, EndWriter}
 use Rattle.pipe_core.specs.Flushes.{reply_to_commit}
+use Rattle.std.specs.List.{AllByRecursion as All}
+use Rattle.pipe_core.specs.Legal.{seat_of}
 use Rattle.pipe_core.specs.Pipe.{runs_of}
 use Rattle.pipe_core.proofs.PipeLemmas.{bytes_of_runs}
 use Rattle.relay_engine.specs.Ends.{ReadsWithin, Shape, Writer, drafted}
@@ -38,6 +40,7 @@ full_step at writer f p s n unasked within settled room capacity = record {
   stands = λ h is. is;
   cause = λ h is. (took_none f (writer p).shape h [] unasked, refl, no_bytes (writer p).free room, capacity);
   commits = λ h. sym (append-nil (written h));
+  writers = tt;
   most = omega arith;
   counted = omega arith;
   within = within;
@@ -64,6 +67,7 @@ ended_step {P} at writer f p p1 p' s s' most code end unasked within read before
   stands = λ h holds. stands h (before h holds);
   cause = λ h holds. each end read is h;
   commits = λ h. sym (append-nil (written h));
+  writers = (refl, tt);
   most = omega arith;
   counted = omega arith;
   within = within;
@@ -161,6 +165,7 @@ moved_step at writer f p s n f2 p2 s' f3 p3 t settles =
       stands = commit_stands at writer f p s n f2 p2 s' [] (flush.Ready canceled None) false f3 p3 t c;
       cause = λ h is. (t.size, (canceled, committed at writer f p s n f2 p2 s' [] (flush.Ready canceled None) false f3 p3 t c h is));
       commits = λ h. ap (λ (bytes : List ℕ). written h ++ bytes) (bytes_of_runs t.bytes);
+      writers = (refl, tt);
       most = omega (arith, t.most, t.size);
       counted = taken_is f f2 f3 n false c.filler t.filler ∙ ap (λ (k : ℕ). f.taken + k) t.size;
       within = omega (arith, t.within, taken_is f f2 f3 n false c.filler t.filler);
@@ -181,6 +186,7 @@ stopped_step at writer f p s n f2 p2 s' (Paused unexamined) f3 p3 t (c, ended) =
   stands = commit_stands at writer f p s n f2 p2 s' [] (flush.Pending unexamined) true f3 p3 t c;
   cause = λ h is. inr (committed at writer f p s n f2 p2 s' [] (flush.Pending unexamined) true f3 p3 t c h is);
   commits = λ h. ap (λ (bytes : List ℕ). written h ++ bytes) (bytes_of_runs t.bytes);
+  writers = (refl, tt);
   most = omega (arith, t.most, t.size);
   counted = taken_is f f2 f3 n true c.filler t.filler ∙ ap (λ (k : ℕ). f.taken + k) t.size;
   within = omega (arith, t.within, taken_is f f2 f3 n true c.filler t.filler);
@@ -201,6 +207,7 @@ stopped_step at writer f p s n f2 p2 s' (Done (taking.Gone code)) f3 p3 t settle
       stands = commit_stands at writer f p s n f2 p2 s' (EndWriter code ∷ []) (flush.Ready canceled (Some code)) f2.owed f3 p3 t c;
       cause = λ h is. (canceled, inr (committed at writer f p s n f2 p2 s' (EndWriter code ∷ []) (flush.Ready canceled (Some code)) f2.owed f3 p3 t c h is));
       commits = λ h. ap (λ (bytes : List ℕ). written h ++ bytes) (bytes_of_runs t.bytes);
+      writers = (refl, (refl, tt));
       most = omega (arith, t.most, t.size);
       counted = taken_is f f2 f3 n f2.owed c.filler t.filler ∙ ap (λ (k : ℕ). f.taken + k) t.size;
       within = omega (arith, t.within, taken_is f f2 f3 n f2.owed c.filler t.filler);
@@ -248,6 +255,7 @@ asked_step at writer f p s (Paused unexamined) f' p' asks within settled (c, end
   stands = ask_stands at writer f p [] (flush.Pending unexamined) true f' p' settled c;
   cause = λ h is. inl (asked_again at writer f p s [] (flush.Pending unexamined) true f' p' asks settled c h is);
   commits = λ h. refl;
+  writers = (refl, tt);
   most = omega arith;
   counted = omega (arith, ap (λ f. f.taken) c.filler);
   within = omega (arith, within, ap (λ f. f.taken) c.filler);
@@ -268,6 +276,7 @@ asked_step at writer f p s (Done (taking.Gone code)) f' p' asks within settled s
       stands = ask_stands at writer f p (EndWriter code ∷ []) (flush.Ready canceled (Some code)) f.owed f' p' settled c;
       cause = λ h is. (canceled, inl (asked_again at writer f p s (EndWriter code ∷ []) (flush.Ready canceled (Some code)) f.owed f' p' asks settled c h is));
       commits = λ h. refl;
+      writers = (refl, (refl, tt));
       most = omega arith;
       counted = omega (arith, ap (λ f. f.taken) c.filler);
       within = omega (arith, within, ap (λ f. f.taken) c.filler);
@@ -284,6 +293,10 @@ asked_step at writer f p s (Full capacity) f' p' asks within settled c = absurd 
 asked_step at writer f p s (Done taking.End) f' p' asks within settled c = absurd c
 asked_step at writer f p s (Done taking.Fault) f' p' asks within settled c = absurd c
 asked_step at writer f p s (Done taking.Long) f' p' asks within settled c = absurd c
+
+writers_and_ask : (calls : List Call) → All (λ call. seat_of call ≡ 0) calls → All (λ call. seat_of call ≡ 0) (calls ++ Commit [] ∷ [])
+writers_and_ask [] all = (refl, tt)
+writers_and_ask (call ∷ calls) all = (all.0, writers_and_ask calls all.1)
 
 -- ---- a flush was owed and went through, and then came the rest of the step
 
@@ -304,6 +317,7 @@ went_on {P} at writer f p s f1 p1 step f' p' s' asks settled settles rest =
           ap (λ (calls : List Call). written calls) (append_assoc rest.calls (Commit [] ∷ []) h)
           ∙ rest.commits (Commit [] ∷ h)
           ∙ ap (λ (xs : List ℕ). xs ++ rest.bytes) (append-nil (written h));
+      writers = writers_and_ask rest.calls rest.writers;
       most = omega (arith, rest.most, ap (λ f. f.seg) c.filler);
       counted = omega (arith, rest.counted, ap (λ f. f.taken) c.filler);
       within = omega (arith, rest.within, ap (λ f. f.limit) c.filler);

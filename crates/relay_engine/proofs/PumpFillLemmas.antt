@@ -48,7 +48,7 @@ pub goes_end : (d : DrainState) (h : List Call) (text : List ℕ) (code : ℕ) �
 goes_end d h text code goes =
     let drained = goes.drained in
     record {
-      drained = record { place = drained.place; passes = drained.passes; rest = drained.rest; short = drained.short; counted = drained.counted };
+      drained = record { place = drained.place; passes = drained.passes; rest = drained.rest; short = drained.short; counted = drained.counted; known = drained.known; unended = drained.unended };
       kept = goes.kept;
       attended = goes.attended;
       no_lend = goes.no_lend;

@@ -77,16 +77,18 @@ some_frame Len4 max = omega arith
 some_frame Len2 max = omega arith
 some_frame Line max = omega arith
 
-pub new_drained : (job : Job) → IsDrained (record { job = job; place = 0; frames = 0; written = 0 }) [] []
+pub new_drained : (job : Job) → IsDrained (record { job = job; place = 0; frames = 0; written = 0; known = 0 }) [] []
 new_drained job = record {
   place = refl;
   passes = passes_nothing job [] false;
   rest = ap (λ c. translation_of job.input job.output c.payloads c.verdict) (empty_open job.input job.max);
   short = some_frame job.input job.max;
   counted = refl;
+  known = omega arith;
+  unended = λ line. refl;
 }
 
-pub starts : (job : Job) (s : SourceState) (k : SinkState) (f : FillState) (d : DrainState) (p : Pipe) → f ≡ record { limit = job.limit; seg = job.seg; taken = 0; owed = false } → d ≡ record { job = job; place = 0; frames = 0; written = 0 } → HoldsFor p [] → p.bytes.draft ≡ []
+pub starts : (job : Job) (s : SourceState) (k : SinkState) (f : FillState) (d : DrainState) (p : Pipe) → f ≡ record { limit = job.limit; seg = job.seg; taken = 0; owed = false } → d ≡ record { job = job; place = 0; frames = 0; written = 0; known = 0 } → HoldsFor p [] → p.bytes.draft ≡ []
     → longest_frame job.input job.max ≤ capacity_of p.bytes → AreThresholds p.control.pause p.control.resume → Pumps job s s k k f d p None
 starts job s k f d p filler drainer holds draft room thresholds = record {
   h = [];

@@ -1,5 +1,5 @@
 -- The parts of a drainer's step, put together.
-use Rattle.std.proofs.Common.{◌≡◌, ℕ, Bool, false, List, [], ◌∷◌, ◌++◌, length, drop, Option, Some, None, refl, sym, ap, ◌∙◌, subst, inl, inr}
+use Rattle.std.proofs.Common.{◌≡◌, ◌-◌, ℕ, Bool, false, List, [], ◌∷◌, ◌++◌, length, drop, Option, Some, None, refl, sym, ap, ◌∙◌, subst, inl, inr}
 use Rattle.std.specs.Io.KnownBytes.{Appends}
 use Rattle.std.proofs.KnownBytes.{Appends-trans}
 use Rattle.std.proofs.lemmas.List.{append-nil}
@@ -32,7 +32,10 @@ use Rattle.relay_engine.proofs.DrainLemmas.{Broke, EndFacts, Wrote, ended, end_f
 pub record Lent {P : Type 0} (at : P → List Call → Type 0) (p p1 : P) (canceled : Bool) (ended : Option ℕ) (len : ℕ) : Type 0 where
   pub told : (h : List Call) → at p h → read.Ready canceled ended len ≡ reply_to_read h
   pub stands : (h : List Call) → at p h → at p1 (Read ∷ h)
-  pub legal : (h : List Call) → at p h → IsLegal h
+  pub legal : (h : List Call) → at p1 h → IsLegal h
+
+legal_behind_read : {P : Type 0} {at : P → List Call → Type 0} {p p1 : P} {canceled : Bool} {ended : Option ℕ} {len : ℕ} → Lent at p p1 canceled ended len → (h : List Call) → at p h → IsLegal h
+legal_behind_read l h is = (l.legal (Read ∷ h) (l.stands h is)).0
 
 wrote_all : (job : Job) (lent x : List ℕ) (ended ended' : Option ℕ) (a b : SinkState) (drained : Drained) → lent ≡ x → ended ≡ ended' → (drains : Drains job lent (is_success ended) a drained b)
     → Wrote job x (is_success ended') drained.passed drained.frames drained.written drained.stop drains.text
@@ -80,10 +83,11 @@ moved_step at reader d p p1 before frames d' p' after canceled ended len l on sh
       cause = λ h text is so_far.
           let lent = lent_is_held h on.lent (on.lends (Read ∷ h) (l.stands h is)) in
           let wrote = subst (λ (stop : Stop). Wrote d.job (held h) false drained.passed drained.frames drained.written stop gain) so.0 (wrote_all d.job on.lent (held h) ended None before after drained lent so.1 writes.drains) in
-          let passed = passed_on d h text gain drained.passed drained.frames drained.written (l.legal h is) so_far wrote in
+          let passed = passed_on d h text gain drained.passed drained.frames drained.written (length on.lent - drained.passed) (ap (λ (x : List ℕ). length x - drained.passed) lent) (legal_behind_read l h is) so_far wrote in
           subst (λ (x : List ℕ). Passed d h text gain (Advance drained.passed (length x) ∷ Read ∷ []) d' frames) (sym lent)
           (subst (λ (e : DrainState). Passed d h text gain (Advance drained.passed (length (held h)) ∷ Read ∷ []) e frames) (sym writes.drainer)
-          (subst (λ (k : ℕ). Passed d h text gain (Advance drained.passed (length (held h)) ∷ Read ∷ []) (added d drained.passed drained.frames drained.written) k) (sym on.how.3) passed));
+          (subst (λ (k : ℕ). Passed d h text gain (Advance drained.passed (length (held h)) ∷ Read ∷ []) (added d drained.passed drained.frames drained.written (length on.lent - drained.passed)) k) (sym on.how.3) passed));
+      readers = (refl, (refl, tt));
       job = ap (λ e. e.job) writes.drainer;
       shape = on.shape ∙ shape;
       goes_on = let kept = on.attended frames refl in (kept.0, kept.1 ∙ gone);
@@ -93,10 +97,10 @@ moved_step at reader d p p1 before frames d' p' after canceled ended len l on sh
 -- the facts at an end
 facts_at : {P : Type 0} (at : P → List Call → Type 0) (d : DrainState) (p p1 : P) (before written : SinkState) (d' : DrainState) (middle : P) (canceled : Bool) (ended : Option ℕ) (len : ℕ) (lent : List ℕ) (drained : Drained)
     → Lent at p p1 canceled ended len → (writes : WritesLent at ended lent d p1 before drained d' middle written) → (h : List Call) (text : List ℕ) → at p h → lent ≡ held h → IsDrained d h text
-    → EndFacts d h text writes.drains.text drained.passed drained.frames drained.written drained.stop
+    → EndFacts d h text writes.drains.text drained.passed drained.frames drained.written (length lent - drained.passed) drained.stop
 facts_at at d p p1 before written d' middle canceled ended len lent drained l writes h text is same so_far =
     let says = ready_says h canceled ended len (sym (l.told h is)) in
-    end_facts d h text writes.drains.text drained.passed drained.frames drained.written drained.stop (l.legal h is) so_far (wrote_all d.job lent (held h) ended (writer_end h) before written drained same says.0 writes.drains)
+    end_facts d h text writes.drains.text drained.passed drained.frames drained.written (length lent - drained.passed) drained.stop (legal_behind_read l h is) so_far (wrote_all d.job lent (held h) ended (writer_end h) before written drained same says.0 writes.drains)
 
 -- an end that isn't that of a failed write
 not_failed : (end : DrainEnd) (v : Verdict) (d : DrainState) (h : List Call) (text gain : List ℕ) (calls : List Call) (d' : DrainState) → is_verdict_of end v → Ends d h text gain calls d' end → DrainedBy d h text gain calls d' (Done end)
@@ -130,10 +134,11 @@ ended_step at reader d p p1 middle before written d' p' after canceled ended' le
           let same = lent_is_held h lent (lends (Read ∷ h) (l.stands h is)) in
           let facts = facts_at at d p p1 before written d' middle canceled ended' len lent drained l writes h text is same so_far in
           let verdict = subst (λ (e : DrainState). is_verdict_of end (verdict_of drained.stop e.place)) writes.drainer so.verdict in
-          let all = ended d h text gain drained.passed drained.frames drained.written drained.stop end (l.legal h is) facts verdict in
+          let all = ended d h text gain drained.passed drained.frames drained.written (length lent - drained.passed) drained.stop end (legal_behind_read l h is) facts verdict in
           not_failed end (verdict_of drained.stop d'.place) d h text gain (EndReader (end_code end) ∷ Advance drained.passed (length lent) ∷ Read ∷ []) d' so.verdict
           (subst (λ (x : List ℕ). Ends d h text gain (EndReader (end_code end) ∷ Advance drained.passed (length x) ∷ Read ∷ []) d' end) (sym same)
           (subst (λ (e : DrainState). Ends d h text gain (EndReader (end_code end) ∷ Advance drained.passed (length (held h)) ∷ Read ∷ []) e end) (sym writes.drainer) all));
+      readers = (refl, (refl, (refl, tt)));
       job = ap (λ e. e.job) writes.drainer;
       shape = shape;
       goes_on = tt;
@@ -158,9 +163,10 @@ unflushed_step at reader d p p1 middle before written d' p' after canceled ended
       cause = λ h text is so_far.
           let same = lent_is_held h lent (lends (Read ∷ h) (l.stands h is)) in
           let facts = facts_at at d p p1 before written d' middle canceled ended' len lent drained l writes h text is same so_far in
-          let front = flush_failed d h text gain drained.passed drained.frames drained.written drained.stop facts in
+          let front = flush_failed d h text gain drained.passed drained.frames drained.written (length lent - drained.passed) drained.stop facts in
           subst (λ (x : List ℕ). Fails d h text gain (EndReader 5 ∷ Advance drained.passed (length x) ∷ Read ∷ []) d') (sym same)
           (subst (λ (e : DrainState). Fails d h text gain (EndReader 5 ∷ Advance drained.passed (length (held h)) ∷ Read ∷ []) e) (sym writes.drainer) front);
+      readers = (refl, (refl, (refl, tt)));
       job = ap (λ e. e.job) writes.drainer;
       shape = shape;
       goes_on = tt;
@@ -183,7 +189,8 @@ broken_step at reader d p p1 before d' p' after canceled ended' len lent broken 
           let same = lent_is_held h lent (lends (Read ∷ h) (l.stands h is)) in
           let says = ready_says h canceled ended' len (sym (l.told h is)) in
           subst (λ (e : DrainState). Fails d h text gain (EndReader 5 ∷ Read ∷ []) e) (sym b.drainer)
-          (write_failed d h text gain broken.frames broken.written (l.legal h is) so_far (broke_off d.job lent (held h) ended' (writer_end h) before after broken same says.0 b.breaks));
+          (write_failed d h text gain broken.frames broken.written (legal_behind_read l h is) so_far (broke_off d.job lent (held h) ended' (writer_end h) before after broken same says.0 b.breaks));
+      readers = (refl, (refl, tt));
       job = ap (λ e. e.job) b.drainer;
       shape = shape;
       goes_on = tt;
@@ -216,14 +223,15 @@ drains_once {P} at reader d p p1 before (Done result) d' p' after canceled ended
     ends_with at middle p' result end same stands h is = subst (λ (e : DrainEnd). at p' (EndReader (end_code e) ∷ h)) same (stands h is)
 
 pub idles_once : {P : Type 0} (at : P → List Call → Type 0) (reader : P → Reader) (d : DrainState) (p : P) (before : SinkState) (n : ℕ) (p' : P) → ((h : List Call) → at p h → read.Pending n ≡ reply_to_read h) → ((h : List Call) → at p h → at p' (Read ∷ h))
-    → ((h : List Call) → at p h → IsLegal h) → (reader p').shape ≡ (reader p).shape → (reader p').writing ≡ (reader p).writing → (reader p').lent ≡ None → (reader p').gone ≡ (reader p).gone → DrainsOnce at reader d p before (Idle n) d p' before
+    → ((h : List Call) → at p' h → IsLegal h) → (reader p').shape ≡ (reader p).shape → (reader p').writing ≡ (reader p).writing → (reader p').lent ≡ None → (reader p').gone ≡ (reader p).gone → DrainsOnce at reader d p before (Idle n) d p' before
 idles_once at reader d p before n p' told stands legal shape draft lent gone = record {
   calls = Read ∷ [];
   gain = [];
   stands = stands;
   asked = λ h is. sym (told h is);
   gained = takes_nothing before before refl;
-  cause = λ h text is so_far. rests d h text n (legal h is) (sym (told h is)) so_far;
+  cause = λ h text is so_far. rests d h text n (legal (Read ∷ h) (stands h is)).0 (sym (told h is)) so_far;
+  readers = (refl, tt);
   job = refl;
   shape = shape;
   goes_on = (lent, gone);

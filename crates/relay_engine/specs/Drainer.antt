@@ -1,10 +1,12 @@
 -- What a step of a drainer does.
-use Rattle.std.specs.Prelude.{ℕ, ◌≡◌, ◌≢◌, ◌<◌, ◌≤◌, ◌+◌, ◌*◌, ◌⊎◌, ◌==◌, Bool, false, List, [], ◌∷◌, ◌++◌, length, take, drop, Option, Some, None}
+use Rattle.std.specs.Prelude.{ℕ, ◌≡◌, ◌≢◌, ◌<◌, ◌≤◌, ◌+◌, ◌*◌, ◌⊎◌, ◌==◌, Bool, false, List, [], ◌∷◌, ◌++◌, length, take, drop, Option, Some, None, position, IsNone}
+use Rattle.std.specs.List.{AllByRecursion as All}
 use mathlib.Core.List.{IsPrefix}
 use Rattle.std.specs.Io.KnownBytes.{Appends}
 use Rattle.edge_core.specs.Device.{SinkState, Takes, HasRisen}
 use Rattle.frame_model.specs.declared.job.Job.{Job}
-use Rattle.frame_model.specs.Spelling.{longest_frame}
+use Rattle.frame_model.specs.declared.framing.Framing.TheVariants.{Line}
+use Rattle.frame_model.specs.Spelling.{is_line_feed, longest_frame}
 use Rattle.frame_model.specs.Cut.{Verdict, Open, End, Rest, Bad}
 use Rattle.frame_model.specs.Translation.{Translation, translation}
 use Rattle.relay_model.specs.Run.{frames_in}
@@ -13,6 +15,7 @@ use Rattle.pipe_core.specs.declared.reply.ReadReply.TheVariants as read
 use Rattle.pipe_core.specs.History.{Call, Read, Advance, EndReader, writer_end}
 use Rattle.pipe_core.specs.Progress.{total, consumed, examined}
 use Rattle.pipe_core.specs.Reads.{reply_to_read}
+use Rattle.pipe_core.specs.Legal.{seat_of}
 use Rattle.relay_engine.specs.Ends.{Reader}
 use Rattle.relay_engine.specs.Frames.{Passes, capped}
 use Rattle.relay_engine.specs.declared.drainer.DrainEnd.{DrainEnd}
@@ -20,12 +23,14 @@ use Rattle.relay_engine.specs.declared.drainer.DrainEnd.TheVariants as ends
 use Rattle.relay_engine.specs.declared.drainer.DrainStep.{DrainStep}
 use Rattle.relay_engine.specs.declared.drainer.DrainStep.TheVariants.{Moved, Idle, Done}
 
--- What is relayed, how many bytes of the input were passed over, in how many frames, and how many bytes were written.
+-- What is relayed, how many bytes of the input were passed over, in how many frames, how many bytes were written, and how many
+-- bytes of the next frame are known to have no line feed, where the input is lines.
 pub record DrainState : Type 0 where
   pub job : Job
   pub place : ℕ
   pub frames : ℕ
   pub written : ℕ
+  pub known : ℕ
 
 -- the writer has completed with code 0: the input is at its end
 abbrev pub is_success : Option ℕ → Bool
@@ -51,6 +56,8 @@ pub record IsDrained (d : DrainState) (h : List Call) (text : List ℕ) : Type 0
   pub rest : translation d.job (drop d.place (looked_at h)) false ≡ record { text = []; verdict = Open }
   pub short : length (drop d.place (looked_at h)) < longest_frame d.job.input d.job.max
   pub counted : d.written ≡ capped (length text)
+  pub known : d.known ≤ length (drop d.place (looked_at h))
+  pub unended : d.job.input ≡ Line → IsNone (position is_line_feed (drop d.place (looked_at h)))
 
 -- the verdict for which a drainer ends
 abbrev pub verdict_of : DrainEnd → Verdict → Type 0
@@ -143,6 +150,7 @@ pub record DrainsOnce {P : Type 0} (at : P → List Call → Type 0) (reader : P
   pub asked : (h : List Call) → at p h → IsAsked step (reply_to_read h)
   pub gained : Gains step before gain after
   pub cause : (h : List Call) (text : List ℕ) → at p h → IsDrained d h text → DrainedBy d h text gain calls d' step
+  pub readers : All (λ call. seat_of call ≡ 1) calls
   pub job : d'.job ≡ d.job
   pub shape : (reader p').shape ≡ (reader p).shape
   -- So the next step may come, if this one isn't the last, and the writer's calls are as they were.

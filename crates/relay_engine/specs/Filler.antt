@@ -1,5 +1,6 @@
 -- What a step of a filler does.
 use Rattle.std.specs.Prelude.{ℕ, ◌≡◌, ◌<◌, ◌≤◌, ◌+◌, ◌⊎◌, Bool, true, false, List, [], ◌∷◌, ◌++◌, length, Option, Some, None, if◌then◌else◌}
+use Rattle.std.specs.List.{AllByRecursion as All}
 use Rattle.std.specs.Io.KnownBytes.{IsAtEnd}
 use Rattle.edge_core.specs.Device.{SourceState, Gives, Fails}
 use Rattle.frame_model.specs.declared.ending.FillEnd.{FillEnd}
@@ -9,6 +10,7 @@ use Rattle.pipe_core.specs.declared.reply.FlushReply.TheVariants as flush
 use Rattle.pipe_core.specs.History.{Call, Commit, EndWriter, bytes_of}
 use Rattle.pipe_core.specs.Flushes.{reply_to_commit}
 use Rattle.pipe_core.specs.Pipe.{runs_of}
+use Rattle.pipe_core.specs.Legal.{seat_of}
 use Rattle.relay_engine.specs.Ends.{GivesOneMore, Shape, Writer}
 use Rattle.relay_engine.specs.declared.filler.FillStep.{FillStep}
 use Rattle.relay_engine.specs.declared.filler.FillStep.TheVariants.{Moved, Paused, Full, Done}
@@ -95,6 +97,7 @@ pub record FillsOnce {P : Type 0} (at : P → List Call → Type 0) (writer : P 
   pub stands : (h : List Call) → at p h → at p' (calls ++ h)
   pub cause : (h : List Call) → at p h → FilledBy f h before bytes calls (writer p') after step
   pub commits : (h : List Call) → written (calls ++ h) ≡ written h ++ bytes
+  pub writers : All (λ call. seat_of call ≡ 0) calls
   pub most : length bytes ≤ f.seg
   pub counted : f'.taken ≡ f.taken + length bytes
   pub within : f'.taken ≤ f.limit

@@ -1,10 +1,11 @@
 -- What is written of the frames of some bytes.
-use Rattle.std.specs.Prelude.{ℕ, ◌≡◌, ◌<◌, ◌≤◌, ◌*◌, ◌-◌, ◌^◌, min, Bool, List, [], ◌∷◌, ◌++◌, length, drop}
+use Rattle.std.specs.Prelude.{ℕ, ◌≡◌, ◌<◌, ◌≤◌, ◌*◌, ◌-◌, ◌^◌, min, Bool, List, [], ◌∷◌, ◌++◌, length, drop, position, IsNone}
 use Rattle.std.specs.Io.KnownBytes.{Appends}
 use mathlib.Core.List.{IsPrefix}
 use Rattle.edge_core.specs.Device.{SinkState, Takes, HasRisen}
 use Rattle.frame_model.specs.declared.job.Job.{Job}
-use Rattle.frame_model.specs.Spelling.{longest_frame, spelling, text as text_of}
+use Rattle.frame_model.specs.declared.framing.Framing.TheVariants.{Line}
+use Rattle.frame_model.specs.Spelling.{is_line_feed, longest_frame, spelling, text as text_of}
 use Rattle.frame_model.specs.Cut.{Verdict, Open, End, Rest, Bad, MayCome}
 use Rattle.frame_model.specs.Translation.{translation, behind}
 use Rattle.relay_model.specs.Run.{payloads_of}
@@ -39,10 +40,11 @@ verdict_of stops.End place = End
 verdict_of stops.Rest place = Rest place
 verdict_of (stops.Bad kind) place = Bad place kind
 
--- No frame is passed on. Where more is wanted, there is less than one longest frame.
+-- No frame is passed on. Where more is wanted, there is less than one longest frame, and of a line no end.
 pub record StopsAt (job : Job) (bytes : List ℕ) (at_end : Bool) (stop : Stop) : Type 0 where
   pub told : translation job bytes at_end ≡ record { text = []; verdict = verdict_of stop 0 }
   pub short : stop ≡ stops.More → length bytes < longest_frame job.input job.max
+  pub unended : stop ≡ stops.More → job.input ≡ Line → IsNone (position is_line_feed bytes)
 
 -- One frame was passed over, and written.
 pub record PassesOne (job : Job) (bytes : List ℕ) (at_end : Bool) (before : SinkState) (len written : ℕ) (after : SinkState) : Type 0 where

@@ -1,6 +1,8 @@
 -- The parts of a drainer's step.
-use Rattle.std.specs.Prelude.{ℕ, ◌≡◌, ◌+◌, ◌⊎◌, List, [], ◌∷◌, length, Option, Some, None}
+use Rattle.std.specs.Prelude.{ℕ, ◌≡◌, ◌≤◌, ◌+◌, ◌-◌, ◌⊎◌, List, [], ◌∷◌, length, take, Option, Some, None, position, IsNone}
 use Rattle.edge_core.specs.Device.{SinkState, Takes, SinkFails}
+use Rattle.frame_model.specs.declared.framing.Framing.TheVariants.{Line}
+use Rattle.frame_model.specs.Spelling.{is_line_feed}
 use Rattle.pipe_core.specs.History.{Call, Advance, EndReader}
 use Rattle.pipe_core.specs.Lends.{lend}
 use Rattle.relay_engine.specs.Ends.{Reader}
@@ -15,9 +17,14 @@ use Rattle.relay_engine.specs.declared.drainer.DrainStep.{DrainStep}
 use Rattle.relay_engine.specs.declared.drainer.DrainStep.TheVariants.{Moved, Idle, Done}
 use Rattle.relay_engine.specs.Drainer.{DrainState, end_code, is_success}
 
--- So many bytes more were passed over, in so many frames, and written.
-abbrev pub added : DrainState → ℕ → ℕ → ℕ → DrainState
-added d passed frames written = record d { place = capped (d.place + passed); frames = capped (d.frames + frames); written = capped (d.written + written) }
+-- So many bytes more were passed over, in so many frames, and written, and so many are known behind them.
+abbrev pub added : DrainState → ℕ → ℕ → ℕ → ℕ → DrainState
+added d passed frames written known =
+    record d { place = capped (d.place + passed); frames = capped (d.frames + frames); written = capped (d.written + written); known = known }
+
+-- What is lent begins with the bytes that are known to have no line feed.
+abbrev pub IsKnown : DrainState → List Call → Type 0
+IsKnown d h = (lent : List ℕ) → lend h ≡ Some lent → (d.known ≤ length lent) × (d.job.input ≡ Line → IsNone (position is_line_feed (take d.known lent)))
 
 -- why nothing more is written where the frames of a lend end so, if so
 abbrev pub end_at : Stop → Option ℕ → ℕ → Option DrainEnd
@@ -37,13 +44,13 @@ pub record Finishes {P : Type 0} (at : P → List Call → Type 0) (reader : P �
 -- The whole frames of a lend were written and passed over.
 pub record WritesLent {P : Type 0} (at : P → List Call → Type 0) (ended : Option ℕ) (lent : List ℕ) (d : DrainState) (p : P) (before : SinkState) (drained : Drained) (d' : DrainState) (p' : P) (after : SinkState) : Type 0 where
   pub drains : Drains d.job lent (is_success ended) before drained after
-  pub drainer : d' ≡ added d drained.passed drained.frames drained.written
+  pub drainer : d' ≡ added d drained.passed drained.frames drained.written (length lent - drained.passed)
   pub stands : (h : List Call) → at p h → at p' (Advance drained.passed (length lent) ∷ h)
 
 -- A call of the sink failed within a lend, and the reader has completed.
 pub record BreaksLent {P : Type 0} (at : P → List Call → Type 0) (ended : Option ℕ) (lent : List ℕ) (d : DrainState) (p : P) (before : SinkState) (broken : Broken) (d' : DrainState) (p' : P) (after : SinkState) : Type 0 where
   pub breaks : Breaks d.job lent (is_success ended) before broken after
-  pub drainer : d' ≡ added d 0 broken.frames broken.written
+  pub drainer : d' ≡ added d 0 broken.frames broken.written d.known
   pub stands : (h : List Call) → at p h → at p' (EndReader 5 ∷ h)
 
 -- What became of a lend, where the writer has completed with this code or goes on.

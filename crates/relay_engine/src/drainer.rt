@@ -1,13 +1,15 @@
 //! The side of a relay that writes frames to a sink.
 
-ghost use Rattle.std.specs.Prelude.{◌≡◌, IsNone, IsSome};
+ghost use Rattle.std.specs.Prelude.{◌≡◌, ℕ, List, IsNone, IsSome};
+ghost use Rattle.pipe_core.specs.History.{Call};
+ghost use Rattle.pipe_core.specs.Legal.{IsLegal};
 ghost use Rattle.pipe_core.specs.Pipe.{HoldsFor};
 ghost use Rattle.relay_engine.specs.Ends.{reader_of};
-ghost use Rattle.relay_engine.specs.Drainer.{DrainsOnce, is_success as is_success_code};
-ghost use Rattle.relay_engine.specs.Passing.{Finishes, PassesOn, added, end_at};
+ghost use Rattle.relay_engine.specs.Drainer.{DrainsOnce, IsDrained, is_success as is_success_code};
+ghost use Rattle.relay_engine.specs.Passing.{Finishes, IsKnown, PassesOn, added, end_at};
 
 use crate::ends::DrainPipe;
-use crate::frames::{Stop, write_frames};
+use crate::frames::{Stop, write_lent};
 use edge_core::Sink;
 use frame_grammar::{BadKind, Job};
 use pipe_core::{PlainPipe, ReadReply};
@@ -75,6 +77,7 @@ pub struct Drainer {
     place: u64,
     frames: u64,
     written: u64,
+    known: u64,
 }
 
 impl Model for Drainer {
@@ -82,19 +85,20 @@ impl Model for Drainer {
 
     ghost Value = { DrainState };
 
-    ghost view = { λ d. record { job = d.job; place = d.place; frames = d.frames; written = d.written } };
+    ghost view = { λ d. record { job = d.job; place = d.place; frames = d.frames; written = d.written; known = d.known } };
 }
 
 impl Drainer {
     /// A drainer that cuts frames and spells them anew as the job says.
     pub fn new(job: &Job) -> Drainer
-        ensures { result ≡ record { job = job.now; place = 0; frames = 0; written = 0 } }
+        ensures { result ≡ record { job = job.now; place = 0; frames = 0; written = 0; known = 0 } }
     {
         Drainer {
             job: *job,
             place: 0,
             frames: 0,
             written: 0,
+            known: 0,
         }
     }
 
@@ -119,6 +123,7 @@ impl Drainer {
     pub fn step<K: Sink>(&mut self, pipe: &mut PlainPipe, sink: &mut K) -> DrainStep
         requires attended { IsNone pipe.old.control.gone }
         requires no_lend { IsNone pipe.old.control.lent }
+        requires own { (h : List Call) × (text : List ℕ) × HoldsFor pipe.old h × IsDrained self.old h text }
         ensures { DrainsOnce HoldsFor reader_of self.old pipe.old (K.state sink.old) result self.new pipe.new (K.state sink.new) }
     {
         self.drain(pipe, sink)
@@ -127,6 +132,7 @@ impl Drainer {
     fn drain<P: DrainPipe, K: Sink>(&mut self, pipe: &mut P, sink: &mut K) -> DrainStep
         requires attended { IsNone (P.reader pipe.old).gone }
         requires no_lend { IsNone (P.reader pipe.old).lent }
+        requires own { (h : List Call) × (text : List ℕ) × P.at pipe.old h × IsDrained self.old h text }
         ensures { DrainsOnce P.at P.reader self.old pipe.old (K.state sink.old) result self.new pipe.new (K.state sink.new) }
     {
         match pipe.read() {
@@ -144,14 +150,21 @@ impl Drainer {
     ) -> DrainStep
         requires attended { IsNone (P.reader pipe.old).gone }
         requires lent { IsSome (P.reader pipe.old).lent }
+        requires known { (h : List Call) × P.at pipe.old h × IsLegal h × IsKnown self.old h }
         ensures { PassesOn P.at P.reader ended self.old pipe.old (K.state sink.old) result self.new pipe.new (K.state sink.new) }
     {
+        let known = self.known;
         let lent = pipe.lent();
-        let len = lent.len();
-        match write_frames(&self.job, lent, is_success(ended), sink) {
+        let len = lent.len() as u64;
+        match write_lent(&self.job, lent, known, is_success(ended), sink) {
             Ok(drained) => {
-                self.add(drained.passed as u64, drained.frames, drained.written);
-                pipe.advance(drained.passed as u64, len as u64);
+                self.add(
+                    drained.passed,
+                    drained.frames,
+                    drained.written,
+                    len - drained.passed,
+                );
+                pipe.advance(drained.passed, len);
                 match end_of(drained.stop, ended, self.place) {
                     Some(end) => DrainStep::Done(finish(end, pipe, sink)),
                     None => DrainStep::Moved {
@@ -160,19 +173,20 @@ impl Drainer {
                 }
             }
             Err(broken) => {
-                self.add(0, broken.frames, broken.written);
+                self.add(0, broken.frames, broken.written, known);
                 pipe.end_reader(FAULTY);
                 DrainStep::Done(DrainEnd::SinkFault)
             }
         }
     }
 
-    fn add(&mut self, passed: u64, frames: u64, written: u64)
-        ensures { self.new ≡ added self.old passed frames written }
+    fn add(&mut self, passed: u64, frames: u64, written: u64, known: u64)
+        ensures { self.new ≡ added self.old passed frames written known }
     {
         self.place = self.place.saturating_add(passed);
         self.frames = self.frames.saturating_add(frames);
         self.written = self.written.saturating_add(written);
+        self.known = known;
     }
 }
 

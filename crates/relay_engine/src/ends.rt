@@ -90,7 +90,7 @@ pub trait DrainPipe {
         ensures told { (h : List Call) → at self.old h → result ≡ reply_to_read h }
         ensures at { (h : List Call) → at self.old h → at self.new (Read ∷ h) }
         ensures reader { reader self.new ≡ record (reader self.old) { lent = lent_by result } }
-        ensures legal { (h : List Call) → at self.old h → IsLegal h };
+        ensures legal { (h : List Call) → at self.new h → IsLegal h };
 
     /// The bytes that the last read lent, in place.
     fn lent(&self) -> &[u8]

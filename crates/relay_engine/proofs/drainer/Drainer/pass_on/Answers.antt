@@ -1,5 +1,6 @@
 -- The frames of a lend are written, or one is broken off.
 use Rattle.std.proofs.Common.{refl, ap, inl, inr, ◌∙◌, sym}
+use Rattle.relay_engine.proofs.DrainLemmas.{lent_small}
 use Rattle.relay_engine.proofs.drainer.Drainer.pass_on.Goals as goal
 use Rattle.relay_engine.proofs.drainer.Drainer.pass_on.Goals.{in-Some, in-None}
 
@@ -14,7 +15,7 @@ returns-after-end_of g c =
             how = inl (
               c.in-Ok.drained,
               c.advance.new.self,
-              g.K.Sink.state c.write_frames.new.sink,
+              g.K.Sink.state c.write_lent.new.sink,
               w.in-Some.end,
               (record { drains = drains; drainer = rw (← c.self.view_is) at c.add.ensures; stands = c.advance.ensures.at }),
               rw (← c.self-in-Ok.view_is) (sym c.end_of.ensures ∙ w.in-Some.is),
@@ -50,3 +51,8 @@ returns-in-Err g c =
       attended = λ frames is. absurd cc;
       writing = ap (λ r. r.writing) c.end_reader.ensures.reader;
     })
+
+pub write_lent-requires-clause-small : goal.write_lent-requires-clause-small
+write_lent-requires-clause-small g c =
+    let known = c.requires.known in
+    lent_small known.0 c.lent-lent.result.now known.2 (c.lent-lent.ensures.bytes known.0 known.1)

@@ -1,0 +1,35 @@
+"""Copies a line of 4 MB and one of 16 MB, and compares the times that the processor takes.
+
+usage: long_line.py PROGRAM
+"""
+
+import os
+import subprocess
+import sys
+import tempfile
+
+MEGABYTE = 1 << 20
+SHORT, LONG = 4, 16  # megabytes
+RUNS = 5
+MOST = 6  # the greatest ratio; a search from the front at each read comes to about 16
+
+
+def processor_time(megabytes):
+    with tempfile.TemporaryFile() as line:
+        line.write(b"x" * (megabytes * MEGABYTE))
+        line.seek(0)
+        program = subprocess.Popen(
+            [sys.argv[1], "copy", "line", "len4", f"max={LONG * MEGABYTE}"],
+            stdin=line,
+            stdout=subprocess.DEVNULL,
+        )
+        _, status, usage = os.wait4(program.pid, 0)
+    if status != 0:
+        raise RuntimeError(f"a line of {megabytes} MB: wait status {status}")
+    return usage.ru_utime + usage.ru_stime
+
+
+short = min(processor_time(SHORT) for _ in range(RUNS))
+long = min(processor_time(LONG) for _ in range(RUNS))
+print(f"a line of {LONG} MB takes {long / short:.1f} times as long as one of {SHORT} MB")
+sys.exit(long / short > MOST)
