@@ -40,7 +40,7 @@ fn too_big(len: u64) -> Cut {
 
 /// Cuts the first frame off bytes that lie in spans which end at any two places.
 fn check_cut(rt: &impl Abort, framing: Framing, max: u64, bytes: &[u8], at_end: bool, want: Cut) {
-    assert!(rt; bytes.len() <= 8);
+    assert!(rt; bytes.len() <= 11);
     for first in 0..bytes.len() + 1 {
         for second in first..bytes.len() + 1 {
             let pieces = Pieces {
@@ -56,7 +56,21 @@ fn check_cut(rt: &impl Abort, framing: Framing, max: u64, bytes: &[u8], at_end: 
 
 #[test]
 fn next_frame_cuts_these_inputs(rt: HostRuntime) {
-    let cases: [(Framing, u64, &[u8], bool, Cut); 30] = [
+    let cases: [(Framing, u64, &[u8], bool, Cut); 32] = [
+        (
+            Framing::Len4,
+            65536,
+            &[0, 0, 0, 2, 104, 105, 0, 0, 0, 1, 97],
+            true,
+            frame(4, 6, 6),
+        ),
+        (
+            Framing::Line,
+            65536,
+            &[97, 13, 10, 98],
+            true,
+            frame(0, 2, 3),
+        ),
         (Framing::Len4, 65536, &[0, 0, 0], false, Cut::More),
         (Framing::Len4, 65536, &[0, 0, 0], true, Cut::Rest),
         (Framing::Len4, 1, &[0, 0, 0, 2], false, too_big(2)),

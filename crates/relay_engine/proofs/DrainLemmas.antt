@@ -1,5 +1,5 @@
 -- What a lend is, and what the frames of it come to in all that is committed.
-use Rattle.std.specs.List.{AllByRecursion as All, position_or_len}
+use Rattle.std.specs.List.{AllByRecursion, position_or_len}
 use Rattle.std.proofs.Common.{not, ◌≡◌, ◌≢◌, ◌<◌, ◌≤◌, ◌+◌, ◌-◌, ◌*◌, ◌^◌, IsNone, position, ℕ, Bool, true, false, cond, List, [], ◌∷◌, ◌++◌, length, take, drop, Option, Some, None, refl, sym, ap, ◌∙◌, subst, append-nil, append_assoc, arith, add-zero, inl, inr, ◌⊎◌}
 use Rattle.std.specs.Prelude.{is_none, max, unwrap_or}
 use Rattle.std.proofs.lemmas.Grind.{flat_map-append}
@@ -367,12 +367,20 @@ ended d h text gain n i w r stop end legal facts verdict = record {
   written = facts.written;
 }
 
-pub flush_failed : (d : DrainState) (h : List Call) (text gain : List ℕ) (n i w r : ℕ) (stop : Stop) → EndFacts d h text gain n i w r stop
+pub flush_failed : (d : DrainState) (h : List Call) (text gain : List ℕ) (n i w r : ℕ) (stop : Stop) → IsLegal h → EndFacts d h text gain n i w r stop
     → Fails d h text gain (EndReader 5 ∷ Advance n (length (held h)) ∷ Read ∷ []) (added d n i w r)
-flush_failed d h text gain n i w r stop facts = record {
+flush_failed d h text gain n i w r stop legal facts = record {
   before = Advance n (length (held h)) ∷ [];
   calls_are = refl;
-  passed = inr (length (held h), n, refl);
+  how = inr (record {
+    len = length (held h);
+    passed = n;
+    advanced = refl;
+    lent = held_is h legal;
+    place = facts.place;
+    passes = facts.passes;
+    whole = sym (ap (λ t. t.text) facts.said);
+  });
   front = ([], append-nil (text ++ gain) ∙ sym (ap (λ t. t.text) facts.said));
   bounded = omega (arith, facts.passes.bounded, facts.passes.within);
   frames = facts.frames;
@@ -406,7 +414,7 @@ write_failed d h text gain i w legal drained broke =
     record {
       before = [];
       calls_are = refl;
-      passed = inl refl;
+      how = inl refl;
       front = subst (λ (t : List ℕ). IsPrefix t (translated d.job h).text) (sym all) (front_partial d.job (total h) (text ++ broke.text) at_end (d.place + broke.len) (d.frames + i) broke.next broke.part broke.others passes stands broke.is_part);
       bounded = omega (arith, drained_bounded, broke.bounded, length-append text gain, held_is h legal, drained.place);
       frames =
@@ -445,12 +453,12 @@ legal_rest : (calls h : List Call) → IsLegal (calls ++ h) → IsLegal h
 legal_rest [] h legal = legal
 legal_rest (call ∷ calls) h legal = legal_rest calls h legal.0
 
-pub behind_others : (d : DrainState) (h : List Call) (text : List ℕ) (calls : List Call) → All (λ call. seat_of call ≢ 1) calls → IsLegal (calls ++ h) → IsDrained d h text → IsDrained d (calls ++ h) text
+pub behind_others : (d : DrainState) (h : List Call) (text : List ℕ) (calls : List Call) → AllByRecursion (λ call. seat_of call ≢ 1) calls → IsLegal (calls ++ h) → IsDrained d h text → IsDrained d (calls ++ h) text
 behind_others d h text [] others legal drained = drained
 behind_others d h text (call ∷ calls) others legal drained =
     behind_call d (calls ++ h) text call others.0 legal.0 (behind_others d h text calls others.1 legal.0 drained)
 
-pub writers_are_others : (calls : List Call) → All (λ call. seat_of call ≡ 0) calls → All (λ call. seat_of call ≢ 1) calls
+pub writers_are_others : (calls : List Call) → AllByRecursion (λ call. seat_of call ≡ 0) calls → AllByRecursion (λ call. seat_of call ≢ 1) calls
 writers_are_others [] all = tt
 writers_are_others (call ∷ calls) all = (λ one. absurd (omega (arith, all.0, one)), writers_are_others calls all.1)
 

@@ -8,7 +8,7 @@ use Rattle.pipe_core.specs.declared.reply.FlushReply.{FlushReply}
 use Rattle.pipe_core.specs.declared.reply.FlushReply.TheVariants as flush
 use Rattle.pipe_core.specs.History.{Call, Commit, EndWriter}
 use Rattle.pipe_core.specs.Flushes.{reply_to_commit}
-use Rattle.std.specs.List.{AllByRecursion as All}
+use Rattle.std.specs.List.{AllByRecursion}
 use Rattle.pipe_core.specs.Legal.{seat_of}
 use Rattle.pipe_core.specs.Pipe.{runs_of}
 use Rattle.pipe_core.proofs.PipeLemmas.{bytes_of_runs}
@@ -59,13 +59,13 @@ full_step at writer f p s n unasked within settled room capacity = record {
 
 -- the writer has completed behind a read that gave nothing
 pub ended_step : {P : Type 0} (at : P → List Call → Type 0) (writer : P → Writer) (f : FillState) (p p1 p' : P) (s s' : SourceState) (most code : ℕ) (end : FillEnd) → f.owed ≡ false → f.taken ≤ f.limit
-    → ReadsWithin most (f.limit - f.taken) s (writer p1).free (Err end) s' → ((h : List Call) → at p h → at p1 h) → ((h : List Call) → at p1 h → at p' (EndWriter code ∷ h)) → code ≡ end_code end
+    → ReadsWithin most (f.limit - f.taken) s (writer p1).free (Err end) s' → ((h : List Call) → at p h → at p1 h) → ((h : List Call) → at p1 h → at p' (EndWriter code ∷ h)) → ((h : List Call) → at p1 h → 0 < length (writer p').free) → code ≡ end_code end
     → (writer p1).shape ≡ (writer p).shape → (writer p').draft ≡ [] → (writer p').shape ≡ (writer p1).shape → (writer p').committed ≤ (writer p).committed → (writer p').reading ≡ (writer p).reading → FillsOnce at writer f p s (Done end) f p' s'
-ended_step {P} at writer f p p1 p' s s' most code end unasked within read before stands is shape settled shape' fewer reading = record {
+ended_step {P} at writer f p p1 p' s s' most code end unasked within read before stands roomy is shape settled shape' fewer reading = record {
   calls = EndWriter code ∷ [];
   bytes = [];
   stands = λ h holds. stands h (before h holds);
-  cause = λ h holds. each end read is h;
+  cause = λ h holds. each end read is h (roomy h (before h holds));
   commits = λ h. sym (append-nil (written h));
   writers = (refl, tt);
   most = omega arith;
@@ -83,11 +83,11 @@ ended_step {P} at writer f p p1 p' s s' most code end unasked within read before
     coded : (h : List Call) (code' : ℕ) → code ≡ code' → TookNone f (writer p').shape h [] (EndWriter code ∷ []) (EndWriter code' ∷ [])
     coded h code' same = subst (λ (c : ℕ). TookNone f (writer p').shape h [] (EndWriter code ∷ []) (EndWriter c ∷ [])) same (took_none f (writer p').shape h (EndWriter code ∷ []) unasked)
 
-    each : (e : FillEnd) → ReadsWithin most (f.limit - f.taken) s (writer p1).free (Err e) s' → code ≡ end_code e → (h : List Call) → FilledBy f h s [] (EndWriter code ∷ []) (writer p') s' (Done e)
-    each taking.End done same h = (coded h 0 same, done.0, done.1)
-    each taking.Fault done same h = (coded h 4 same, done)
-    each taking.Long done same h = (coded h 7 same, omega (arith, done.0, within), done.1)
-    each (taking.Gone c) done same h = absurd done
+    each : (e : FillEnd) → ReadsWithin most (f.limit - f.taken) s (writer p1).free (Err e) s' → code ≡ end_code e → (h : List Call) → 0 < length (writer p').free → FilledBy f h s [] (EndWriter code ∷ []) (writer p') s' (Done e)
+    each taking.End done same h room = (coded h 0 same, done.0, done.1, room)
+    each taking.Fault done same h room = (coded h 4 same, done, room)
+    each taking.Long done same h room = (coded h 7 same, omega (arith, done.0, within), done.1, room)
+    each (taking.Gone c) done same h room = absurd done
 
 -- ---- bytes were read, and are the draft
 
@@ -294,7 +294,7 @@ asked_step at writer f p s (Done taking.End) f' p' asks within settled c = absur
 asked_step at writer f p s (Done taking.Fault) f' p' asks within settled c = absurd c
 asked_step at writer f p s (Done taking.Long) f' p' asks within settled c = absurd c
 
-writers_and_ask : (calls : List Call) → All (λ call. seat_of call ≡ 0) calls → All (λ call. seat_of call ≡ 0) (calls ++ Commit [] ∷ [])
+writers_and_ask : (calls : List Call) → AllByRecursion (λ call. seat_of call ≡ 0) calls → AllByRecursion (λ call. seat_of call ≡ 0) (calls ++ Commit [] ∷ [])
 writers_and_ask [] all = (refl, tt)
 writers_and_ask (call ∷ calls) all = (all.0, writers_and_ask calls all.1)
 
@@ -374,9 +374,9 @@ went_on {P} at writer f p s f1 p1 step f' p' s' asks settled settles rest =
     each (Paused unexamined) unasked h through (inl again) = not_again (Commit [] ∷ h) [] (flush.Pending unexamined) unasked again
     each (Paused unexamined) unasked h through (inr took) = inr (took_behind h [] (flush.Pending unexamined) unasked through took)
     each (Full capacity) unasked h through full = (none_behind h [] rest.calls unasked through full.0, full.1, full.2, full.3)
-    each (Done taking.End) unasked h through ended = (none_behind h (EndWriter 0 ∷ []) rest.calls unasked through ended.0, ended.1, ended.2)
-    each (Done taking.Fault) unasked h through ended = (none_behind h (EndWriter 4 ∷ []) rest.calls unasked through ended.0, ended.1)
-    each (Done taking.Long) unasked h through ended = (none_behind h (EndWriter 7 ∷ []) rest.calls unasked through ended.0, sym (ap (λ f. f.taken) settles.0.1.filler) ∙ ended.1 ∙ ap (λ f. f.limit) settles.0.1.filler, ended.2)
+    each (Done taking.End) unasked h through ended = (none_behind h (EndWriter 0 ∷ []) rest.calls unasked through ended.0, ended.1, ended.2, ended.3)
+    each (Done taking.Fault) unasked h through ended = (none_behind h (EndWriter 4 ∷ []) rest.calls unasked through ended.0, ended.1, ended.2)
+    each (Done taking.Long) unasked h through ended = (none_behind h (EndWriter 7 ∷ []) rest.calls unasked through ended.0, sym (ap (λ f. f.taken) settles.0.1.filler) ∙ ended.1 ∙ ap (λ f. f.limit) settles.0.1.filler, ended.2, ended.3)
     each (Done (taking.Gone code)) unasked h through (canceled, inl again) = not_again (Commit [] ∷ h) (EndWriter code ∷ []) (flush.Ready canceled (Some code)) unasked again
     each (Done (taking.Gone code)) unasked h through (canceled, inr took) = (canceled, inr (took_behind h (EndWriter code ∷ []) (flush.Ready canceled (Some code)) unasked through took))
 

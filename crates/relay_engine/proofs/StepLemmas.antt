@@ -163,7 +163,7 @@ unflushed_step at reader d p p1 middle before written d' p' after canceled ended
       cause = λ h text is so_far.
           let same = lent_is_held h lent (lends (Read ∷ h) (l.stands h is)) in
           let facts = facts_at at d p p1 before written d' middle canceled ended' len lent drained l writes h text is same so_far in
-          let front = flush_failed d h text gain drained.passed drained.frames drained.written (length lent - drained.passed) drained.stop facts in
+          let front = flush_failed d h text gain drained.passed drained.frames drained.written (length lent - drained.passed) drained.stop (legal_behind_read l h is) facts in
           subst (λ (x : List ℕ). Fails d h text gain (EndReader 5 ∷ Advance drained.passed (length x) ∷ Read ∷ []) d') (sym same)
           (subst (λ (e : DrainState). Fails d h text gain (EndReader 5 ∷ Advance drained.passed (length (held h)) ∷ Read ∷ []) e) (sym writes.drainer) front);
       readers = (refl, (refl, (refl, tt)));

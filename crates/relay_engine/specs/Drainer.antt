@@ -1,6 +1,6 @@
 -- What a step of a drainer does.
 use Rattle.std.specs.Prelude.{ℕ, ◌≡◌, ◌≢◌, ◌<◌, ◌≤◌, ◌+◌, ◌*◌, ◌⊎◌, ◌==◌, Bool, false, List, [], ◌∷◌, ◌++◌, length, take, drop, Option, Some, None, position, IsNone}
-use Rattle.std.specs.List.{AllByRecursion as All}
+use Rattle.std.specs.List.{AllByRecursion}
 use mathlib.Core.List.{IsPrefix}
 use Rattle.std.specs.Io.KnownBytes.{Appends}
 use Rattle.edge_core.specs.Device.{SinkState, Takes, HasRisen}
@@ -105,11 +105,21 @@ pub record Ends (d : DrainState) (h : List Call) (text gain : List ℕ) (calls :
   pub frames : d'.frames ≡ frames_in d.job (total h) (is_whole h) (text ++ gain)
   pub written : d'.written ≡ capped (length (text ++ gain))
 
+-- The flush failed: all that is to be written was, and was passed over.
+pub record Unflushed (d : DrainState) (h : List Call) (all : List ℕ) (before : List Call) (d' : DrainState) : Type 0 where
+  pub len : ℕ
+  pub passed : ℕ
+  pub advanced : before ≡ Advance passed len ∷ []
+  pub lent : consumed h + len ≡ length (total h)
+  pub place : d'.place ≡ d.place + passed
+  pub passes : Passes d.job (total h) (is_whole h) d'.place d'.frames all
+  pub whole : all ≡ (translated d.job h).text
+
 -- A write or a flush failed, and what was written is a front of what was to be. The reader has completed.
 pub record Fails (d : DrainState) (h : List Call) (text gain : List ℕ) (calls : List Call) (d' : DrainState) : Type 0 where
   pub before : List Call
   pub calls_are : calls ≡ EndReader 5 ∷ before ++ Read ∷ []
-  pub passed : (before ≡ []) ⊎ ((len passed : ℕ) × (before ≡ Advance passed len ∷ []))
+  pub how : (before ≡ []) ⊎ Unflushed d h (text ++ gain) before d'
   pub front : IsPrefix (text ++ gain) (translated d.job h).text
   pub bounded : length (text ++ gain) ≤ 5 * length (total h)
   pub frames : d'.frames ≡ frames_in d.job (total h) (is_whole h) (text ++ gain)
@@ -150,7 +160,7 @@ pub record DrainsOnce {P : Type 0} (at : P → List Call → Type 0) (reader : P
   pub asked : (h : List Call) → at p h → IsAsked step (reply_to_read h)
   pub gained : Gains step before gain after
   pub cause : (h : List Call) (text : List ℕ) → at p h → IsDrained d h text → DrainedBy d h text gain calls d' step
-  pub readers : All (λ call. seat_of call ≡ 1) calls
+  pub readers : AllByRecursion (λ call. seat_of call ≡ 1) calls
   pub job : d'.job ≡ d.job
   pub shape : (reader p').shape ≡ (reader p).shape
   -- So the next step may come, if this one isn't the last, and the writer's calls are as they were.

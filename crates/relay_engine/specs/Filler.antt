@@ -1,6 +1,6 @@
 -- What a step of a filler does.
 use Rattle.std.specs.Prelude.{ℕ, ◌≡◌, ◌<◌, ◌≤◌, ◌+◌, ◌⊎◌, Bool, true, false, List, [], ◌∷◌, ◌++◌, length, Option, Some, None, if◌then◌else◌}
-use Rattle.std.specs.List.{AllByRecursion as All}
+use Rattle.std.specs.List.{AllByRecursion}
 use Rattle.std.specs.Io.KnownBytes.{IsAtEnd}
 use Rattle.edge_core.specs.Device.{SourceState, Gives, Fails}
 use Rattle.frame_model.specs.declared.ending.FillEnd.{FillEnd}
@@ -69,11 +69,11 @@ FilledBy f h before bytes calls w after (Paused unexamined) =
 FilledBy f h before bytes calls w after (Full capacity) =
     TookNone f w.shape h bytes calls [] × (after ≡ before) × (w.free ≡ []) × (capacity ≡ w.shape.capacity)
 FilledBy f h before bytes calls w after (Done taking.End) =
-    TookNone f w.shape h bytes calls (EndWriter 0 ∷ []) × Gives before [] after × IsAtEnd after.left
+    TookNone f w.shape h bytes calls (EndWriter 0 ∷ []) × Gives before [] after × IsAtEnd after.left × (0 < length w.free)
 FilledBy f h before bytes calls w after (Done taking.Fault) =
-    TookNone f w.shape h bytes calls (EndWriter 4 ∷ []) × Fails before after
+    TookNone f w.shape h bytes calls (EndWriter 4 ∷ []) × Fails before after × (0 < length w.free)
 FilledBy f h before bytes calls w after (Done taking.Long) =
-    TookNone f w.shape h bytes calls (EndWriter 7 ∷ []) × (f.taken ≡ f.limit) × GivesOneMore before after
+    TookNone f w.shape h bytes calls (EndWriter 7 ∷ []) × (f.taken ≡ f.limit) × GivesOneMore before after × (0 < length w.free)
 FilledBy f h before bytes calls w after (Done (taking.Gone code)) = (canceled : Bool) × (
     AskedAgain f w.shape h before bytes calls (EndWriter code ∷ []) after (flush.Ready canceled (Some code))
     ⊎ Took f w.shape h before bytes calls (EndWriter code ∷ []) after (flush.Ready canceled (Some code)))
@@ -97,7 +97,7 @@ pub record FillsOnce {P : Type 0} (at : P → List Call → Type 0) (writer : P 
   pub stands : (h : List Call) → at p h → at p' (calls ++ h)
   pub cause : (h : List Call) → at p h → FilledBy f h before bytes calls (writer p') after step
   pub commits : (h : List Call) → written (calls ++ h) ≡ written h ++ bytes
-  pub writers : All (λ call. seat_of call ≡ 0) calls
+  pub writers : AllByRecursion (λ call. seat_of call ≡ 0) calls
   pub most : length bytes ≤ f.seg
   pub counted : f'.taken ≡ f.taken + length bytes
   pub within : f'.taken ≤ f.limit

@@ -69,6 +69,7 @@ pub trait FillPipe {
         requires open { IsNone (writer self.old).ended }
         requires settled { (writer self.old).draft ≡ [] }
         ensures at { (h : List Call) → at self.old h → at self.new (EndWriter code ∷ h) }
+        ensures free { (h : List Call) → at self.old h → length (writer self.new).free ≡ length (writer self.old).free }
         ensures draft { (writer self.new).draft ≡ [] }
         ensures committed { (writer self.new).committed ≤ (writer self.old).committed }
         ensures shape { (writer self.new).shape ≡ (writer self.old).shape }

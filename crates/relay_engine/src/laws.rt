@@ -1,7 +1,7 @@
 //! What follows from the steps of a drainer. These functions do nothing: what they ensure is the law.
 
 ghost use Rattle.std.specs.Prelude.{◌≡◌, ◌≢◌, ℕ, List, [], ◌++◌};
-ghost use Rattle.std.specs.List.{AllByRecursion as All};
+ghost use Rattle.std.specs.List.{AllByRecursion};
 ghost use mathlib.Core.List.{IsPrefix};
 ghost use Rattle.pipe_core.specs.History.{Call};
 ghost use Rattle.pipe_core.specs.Legal.{IsLegal, seat_of};
@@ -17,7 +17,7 @@ pub fn drained_at_first()
 /// What a drainer has written stays what it is to have written, whatever others do: these calls, the latest first.
 pub fn drained_behind_others()
     ensures { (d : DrainState) (h : List Call) (text : List ℕ) (calls : List Call) →
-        All (λ call. seat_of call ≢ 1) calls → IsLegal (calls ++ h) → IsDrained d h text → IsDrained d (calls ++ h) text }
+        AllByRecursion (λ call. seat_of call ≢ 1) calls → IsLegal (calls ++ h) → IsDrained d h text → IsDrained d (calls ++ h) text }
 {}
 
 /// What a drainer has written is at any time a front of the translation of all that is committed.

@@ -27,8 +27,12 @@ fn job(input: Framing, output: Framing, limit: u64) -> Job
     }
 }
 
-fn source(alloc: Global, content: &[u8]) -> Result<MemSource, AllocError> {
-    Ok(MemSource::make(content.to_vec(alloc)?, Vec::new(alloc), Vec::new(alloc)))
+fn source(alloc: Global, content: &[u8], failing_calls: &[u64]) -> Result<MemSource, AllocError> {
+    Ok(MemSource::make(
+        content.to_vec(alloc)?,
+        Vec::new(alloc),
+        failing_calls.to_vec(alloc)?,
+    ))
 }
 
 fn sink(alloc: Global, failing_calls: &[u64]) -> Result<MemSink, AllocError> {
@@ -53,7 +57,7 @@ fn report(outcome: Outcome, frames: u64, taken: u64, written: u64) -> Report {
 fn a_step_fills_a_pipe_and_a_step_drains_it(rt: HostRuntime) -> Result<(), Fail> {
     let alloc = rt.alloc();
     let mut pipe = PlainPipe::make(alloc, 16, 8, 4)?;
-    let mut source = source(alloc, TWO_FRAMES)?;
+    let mut source = source(alloc, TWO_FRAMES, &[])?;
     let mut sink = sink(alloc, &[])?;
     let mut filler = Filler::new(20, 8);
     let mut drainer = Drainer::new(&job(Framing::Len4, Framing::Line, 20));
@@ -78,7 +82,7 @@ fn a_relay_takes_no_more_than_its_limit(rt: HostRuntime) -> Result<(), Fail> {
         (0, report(Outcome::TooLong, 0, 0, 0), b""),
     ];
     for (limit, told, text) in cases {
-        let mut source = source(alloc, TWO_FRAMES)?;
+        let mut source = source(alloc, TWO_FRAMES, &[])?;
         let mut sink = sink(alloc, &[])?;
         let job = job(Framing::Len4, Framing::Line, limit);
         assert_eq!(rt; pump_local(alloc, &mut source, &mut sink, &job)?, told);
@@ -91,23 +95,58 @@ fn a_relay_takes_no_more_than_its_limit(rt: HostRuntime) -> Result<(), Fail> {
 #[test]
 fn a_sink_is_flushed_once_before_an_end(rt: HostRuntime) -> Result<(), Fail> {
     let alloc = rt.alloc();
-    let cases: [(&[u8], u64, Outcome, u64); 8] = [
-        (TWO_FRAMES, 5, Outcome::WriteFault, 2),
-        (TWO_FRAMES, 6, Outcome::Clean, 2),
-        (&[0, 0, 0, 0], 2, Outcome::WriteFault, 1),
-        (&[0, 0, 0, 0], 3, Outcome::Clean, 1),
-        (&[0, 0], 1, Outcome::WriteFault, 0),
-        (&[0, 0], 2, Outcome::Truncated { place: 0 }, 0),
-        (&[0, 1, 0, 1], 1, Outcome::WriteFault, 0),
-        (&[0, 1, 0, 1], 2, BAD_FRAME, 0),
+    let cases: [(&[u8], u64, u64, Outcome, u64); 10] = [
+        (TWO_FRAMES, 1_000, 5, Outcome::WriteFault, 2),
+        (TWO_FRAMES, 1_000, 6, Outcome::Clean, 2),
+        (TWO_FRAMES, 10, 3, Outcome::WriteFault, 1),
+        (TWO_FRAMES, 10, 4, Outcome::TooLong, 1),
+        (&[0, 0, 0, 0], 1_000, 2, Outcome::WriteFault, 1),
+        (&[0, 0, 0, 0], 1_000, 3, Outcome::Clean, 1),
+        (&[0, 0], 1_000, 1, Outcome::WriteFault, 0),
+        (&[0, 0], 1_000, 2, Outcome::Truncated { place: 0 }, 0),
+        (&[0, 1, 0, 1], 1_000, 1, Outcome::WriteFault, 0),
+        (&[0, 1, 0, 1], 1_000, 2, BAD_FRAME, 0),
     ];
-    for (input, failing_call, outcome, frames) in cases {
-        let mut source = source(alloc, input)?;
+    for (input, limit, failing_call, outcome, frames) in cases {
+        let mut source = source(alloc, input, &[])?;
         let mut sink = sink(alloc, &[failing_call])?;
-        let job = job(Framing::Len4, Framing::Line, 1_000);
+        assert!(rt; limit <= 1_000);
+        let job = job(Framing::Len4, Framing::Line, limit);
         let report = pump_local(alloc, &mut source, &mut sink, &job)?;
         assert_eq!(rt; (report.outcome, report.frames), (outcome, frames));
     }
+    Ok(())
+}
+
+/// The source counts its calls: one read takes up to a segment, and one more finds the end.
+#[test]
+fn a_read_that_fails_ends_the_taking(rt: HostRuntime) -> Result<(), Fail> {
+    let alloc = rt.alloc();
+    let empty_frames = [0; 80];
+    let cases: [(u64, Report); 3] = [
+        (1, report(Outcome::ReadFault, 0, 0, 0)),
+        (2, report(Outcome::ReadFault, 20, 80, 20)),
+        (3, report(Outcome::Clean, 20, 80, 20)),
+    ];
+    for (failing_call, told) in cases {
+        let mut source = source(alloc, &empty_frames, &[failing_call])?;
+        let mut sink = sink(alloc, &[])?;
+        let job = job(Framing::Len4, Framing::Line, 1_000);
+        assert_eq!(rt; pump_local(alloc, &mut source, &mut sink, &job)?, told);
+    }
+    Ok(())
+}
+
+#[test]
+fn nothing_is_read_where_there_is_no_room(rt: HostRuntime) -> Result<(), Fail> {
+    let alloc = rt.alloc();
+    let mut pipe = PlainPipe::make(alloc, 0, 8, 4)?;
+    let mut source = source(alloc, TWO_FRAMES, &[1])?;
+    let mut filler = Filler::new(0, 8);
+    assert_eq!(rt;
+        filler.step(&mut pipe, &mut source),
+        FillStep::Full { capacity: 0 }
+    );
     Ok(())
 }
 
@@ -116,7 +155,7 @@ fn a_frame_that_was_broken_off_is_not_counted(rt: HostRuntime) -> Result<(), Fai
     let alloc = rt.alloc();
     let cases: [(u64, u64, u64); 4] = [(1, 0, 0), (2, 0, 2), (3, 1, 3), (4, 1, 4)];
     for (failing_call, frames, written) in cases {
-        let mut source = source(alloc, TWO_FRAMES)?;
+        let mut source = source(alloc, TWO_FRAMES, &[])?;
         let mut sink = sink(alloc, &[failing_call])?;
         let job = job(Framing::Len4, Framing::Line, 1_000);
         let told = report(Outcome::WriteFault, frames, 11, written);

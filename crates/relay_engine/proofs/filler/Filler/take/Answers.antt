@@ -24,5 +24,6 @@ returns-in-None g c =
 pub returns-in-Err : goal.returns-in-Err
 returns-in-Err g c =
     rw (← c.self.view_is) (ended_step g.P.FillPipe.at g.P.FillPipe.writer _ c.args.pipe.now c.read_into.new.self c.end_writer.new.self _ _ c.min.result c.code_of.result c.in-Err.end (rw (← c.self.view_is) at c.requires.asked) c.self.invariant.0
-    c.in-Err.ensures.read c.in-Err.ensures.at c.end_writer.ensures.at c.code_of.ensures (ap (λ w. w.shape) c.in-Err.ensures.writer) c.end_writer.ensures.draft c.end_writer.ensures.shape
+    c.in-Err.ensures.read c.in-Err.ensures.at c.end_writer.ensures.at
+    (λ h is. omega (arith, c.end_writer.ensures.free h is, c.in-Err.ensures.free, c.min.ensures, c.room-room.ensures)) c.code_of.ensures (ap (λ w. w.shape) c.in-Err.ensures.writer) c.end_writer.ensures.draft c.end_writer.ensures.shape
     (omega (arith, c.end_writer.ensures.committed, ap (λ w. w.committed) c.in-Err.ensures.writer)) (c.end_writer.ensures.reading ∙ ap (λ w. w.reading) c.in-Err.ensures.writer))
