@@ -1,4 +1,4 @@
-"""Copies a line of 4 MB and one of 16 MB, and compares the times that the processor takes.
+"""Copies a line of 4 MB and one of 16 MB, each as long as may be, and compares the times that the processor takes.
 
 usage: long_line.py PROGRAM
 """
@@ -19,7 +19,7 @@ def processor_time(megabytes):
         line.write(b"x" * (megabytes * MEGABYTE))
         line.seek(0)
         program = subprocess.Popen(
-            [sys.argv[1], "copy", "line", "len4", f"max={LONG * MEGABYTE}"],
+            [sys.argv[1], "copy", "line", "len4", f"max={megabytes * MEGABYTE}"],
             stdin=line,
             stdout=subprocess.DEVNULL,
         )
