@@ -1,11 +1,22 @@
 //! Sets of bytes.
 
-ghost use Rattle.std.specs.Prelude.{◌≡◌, ◌||◌, ◌==◌, ◌↔◌, ℕ, Contains, IsTrue};
+ghost use Rattle.std.specs.Prelude.{◌≡◌, ◌↔◌, ℕ, Contains, IfSome, IsTrue};
+ghost use Rattle.byte_kernels.specs.ByteSet.{has};
 
-/// A set of bytes, with a bit for each that there is. It takes as long to test a byte whatever the set.
+use crate::byte_test::{ByteTest, Just};
+use crate::table::Table;
+
+/// A set of bytes. It takes as long to test a byte whatever the set.
 #[derive(Clone, Copy, Debug, PartialEq, Eq)]
 pub struct ByteSet {
-    words: [u64; 4],
+    pub(crate) form: Form,
+}
+
+/// How a set is kept: a search for one byte is another one than that for several.
+#[derive(Clone, Copy, Debug, PartialEq, Eq)]
+pub(crate) enum Form {
+    One(Just),
+    Many(Table),
 }
 
 impl ByteSet {
@@ -15,20 +26,11 @@ impl ByteSet {
     pub fn of(bytes: &[u8]) -> ByteSet
         ensures { (byte : ℕ) → IsTrue (contains result byte) ↔ Contains bytes.now byte }
     {
-        let mut set = ByteSet { words: [0; 4] };
-        for byte in bytes {
-            set = set.with(*byte);
-        }
-        set
-    }
-
-    // The set with one more byte.
-    fn with(self, byte: u8) -> ByteSet
-        ensures { (other : ℕ) → contains result other ≡ (contains self other || other == byte) }
-    {
-        let mut words = self.words;
-        words[usize::from(byte / 64)] |= 1 << (byte % 64);
-        ByteSet { words }
+        let form = match only_byte(bytes) {
+            Some(only) => Form::One(Just(only)),
+            None => Form::Many(table_of(bytes)),
+        };
+        ByteSet { form }
     }
 
     /// Whether `byte` is in the set.
@@ -36,6 +38,31 @@ impl ByteSet {
     pub fn contains(&self, byte: u8) -> bool
         ensures { result ≡ contains self.now byte }
     {
-        (self.words[usize::from(byte / 64)] >> (byte % 64)) & 1 == 1
+        match &self.form {
+            Form::One(just) => just.byte(byte),
+            Form::Many(table) => table.byte(byte),
+        }
     }
+}
+
+// The byte that all of them are, where there is one.
+fn only_byte(bytes: &[u8]) -> Option<u8>
+    ensures { IfSome result (λ only. (byte : ℕ) → Contains bytes.now byte ↔ (byte ≡ only)) }
+{
+    let (first, others) = bytes.split_first()?;
+    if others.iter().all(|byte| byte == first) {
+        Some(*first)
+    } else {
+        None
+    }
+}
+
+fn table_of(bytes: &[u8]) -> Table
+    ensures { (byte : ℕ) → IsTrue (has result byte) ↔ Contains bytes.now byte }
+{
+    let mut table = Table::EMPTY;
+    for byte in bytes {
+        table = table.with(*byte);
+    }
+    table
 }

@@ -1,14 +1,9 @@
--- All bytes were passed.
-use Rattle.std.proofs.Common.{eqb, ap, sym, ◌∙◌}
-use Rattle.std.specs.List.{list_any}
-use Rattle.std.proofs.lemmas.List.{take_all}
-use Rattle.byte_kernels.proofs.BitLemmas.{any_is_contained}
+-- All bytes are one and the same, or the table has each of them.
+use Rattle.std.proofs.Common.{eqb}
+use Rattle.std.proofs.lemmas.Bool.{eqb-true, eq-eqb}
 use Rattle.byte_kernels.proofs.byte_set.ByteSet.of.Goals as goal
 
-pub returns : goal.returns
-returns c = λ byte.
-    let bytes = c.args.bytes.now in
-    let both = any_is_contained byte bytes in
-    let all = take_all c.loop-byte.byte-index bytes c.loop-byte-test.false in
-    let is = c.loop-byte.invariant byte ∙ ap (list_any (λ member. eqb byte member)) all in
-    (λ in_set. both.0 (sym is ∙ in_set), λ in_list. is ∙ both.1 in_list)
+pub returns-in-Some : goal.returns-in-Some
+returns-in-Some c = λ byte.
+    let both = c.in-Some.ensures byte in
+    (λ is. both.1 (eqb-true byte c.in-Some.only is), λ has. eq-eqb byte c.in-Some.only (both.0 has))
