@@ -1,5 +1,5 @@
 -- The bits of a set.
-use Rattle.std.proofs.Common.{◌≡◌, ◌≢◌, ◌↔◌, ◌*◌, ◌/◌, ◌%◌, ◌^◌, ◌<◌, ℕ, Bool, true, false, ◌||◌, eqb, List, length, get_or, set, refl, sym, ap, ◌∙◌, inl, inr, arith, bit_or, Contains, get_or-set_same, get_or-set_other, replicate, w8, ◌+◌, ◌≤◌}
+use Rattle.std.proofs.Common.{◌≡◌, ◌≢◌, ◌↔◌, ◌*◌, ◌/◌, ◌%◌, ◌^◌, ◌<◌, ℕ, Bool, true, false, ◌||◌, eqb, List, length, get_or, set, refl, sym, ap, ◌∙◌, inl, inr, arith, bit_or, Contains, get_or-set_same, get_or-set_other, replicate, w8, ◌+◌}
 use Rattle.std.specs.Int.{bit_at}
 use Rattle.std.specs.List.{list_any}
 use Rattle.std.proofs.lemmas.Bool.{cases_lt, eqb-true, eq-eqb, ne_eqb}

@@ -1,9 +1,9 @@
 -- The first and the last place that meet a test, as positions in lists.
-use Rattle.std.proofs.Common.{◌≡◌, ℕ, zero, suc, ◌+◌, ◌-◌, ◌<◌, ◌≤◌, Bool, true, false, not, cond, eqb, ltb, min, Option, Some, None, List, [], ◌∷◌, length, get_or, reverse, option_map, refl, sym, ap, subst, ◌∙◌, inl, inr, arith}
+use Rattle.std.proofs.Common.{◌≡◌, ℕ, zero, suc, ◌-◌, ◌<◌, ◌≤◌, Bool, true, false, not, cond, eqb, ltb, ltb-false, Contains, Option, Some, None, List, [], ◌∷◌, length, get_or, reverse, option_map, refl, sym, ap, subst, ◌∙◌, inl, inr, arith}
 use Rattle.std.specs.List.{common_prefix_len, position, position_or_len}
 use Rattle.std.proofs.lemmas.Bool.{cases_lt, false_from_ne_true, false≢true, le-ltb, lt-ltb}
 use Rattle.std.proofs.lemmas.List.{get_or-reverse, length-reverse}
-use Rattle.std.proofs.lemmas.List.Sums.{passes_at_first, position_or_len_is, prefix_len-le-length}
+use Rattle.std.proofs.lemmas.List.Sums.{fails_before_first, passes_at_first, position_or_len_is}
 use Rattle.memchr.specs.Find.{IsFirst, IsLast}
 use Rattle.byte_kernels.specs.Scan.{last_position}
 
@@ -68,3 +68,16 @@ front_is (x ∷ a) (y ∷ b) zero in_a in_b alike differ = rw (differ_false (eqb
 front_is (x ∷ a) (y ∷ b) (suc at) in_a in_b alike differ =
     rw (alike_true (eqb x y) (alike 0 (omega arith)))
     (omega (arith, front_is a b at (omega arith) (omega arith) (λ k lt. alike (suc k) (omega arith)) (λ lt_a lt_b. differ (omega arith) (omega arith))))
+
+none_is_end : (n len : ℕ) (b : Bool) → ltb n len ≡ b → None ≡ cond b (Some n) None → len ≤ n
+none_is_end n len true is e = absurd cc
+none_is_end n len false is e = ltb-false n len is
+
+-- where no byte fails a test, all that a list has meet it
+pub all_meet : (test : ℕ → Bool) (bytes : List ℕ) → None ≡ position (λ byte. not (test byte)) bytes → (byte : ℕ) → Contains bytes byte → test byte ≡ true
+all_meet test bytes none byte has =
+    let others = λ (other : ℕ). not (test other) in
+    let k = has.0 in
+    let all = none_is_end (position_or_len others bytes) (length bytes) _ refl none in
+    let fails : not (test (get_or bytes k byte)) ≡ false = fails_before_first others bytes k byte (omega (arith, all, has.1)) in
+    subst (λ b. test b ≡ true) has.2 (alike_true (test (get_or bytes k byte)) (λ other. false≢true (sym fails ∙ other)))

@@ -1,8 +1,9 @@
 -- Bits of tables, looked up lane by lane.
-use Rattle.std.proofs.Common.{◌≡◌, ℕ, suc, ◌+◌, ◌-◌, ◌*◌, ◌/◌, ◌%◌, ◌^◌, ◌<◌, ◌≤◌, Bool, true, false, cond, eqb, ltb, ltb-true, ltb-false, List, [], ◌∷◌, length, get_or, map, replicate, take, drop, refl, sym, ap, ◌∙◌, inl, inr, arith, w8, bit_and, Fits, pow_pos}
+use Rattle.std.proofs.Common.{◌≡◌, ℕ, ◌+◌, ◌*◌, ◌/◌, ◌%◌, ◌^◌, ◌<◌, cond, eqb, ltb, List, [], ◌∷◌, length, get_or, map, replicate, take, drop, refl, sym, ap, ◌∙◌, inl, inr, arith, w8, bit_and, Fits, pow_pos}
 use Rattle.std.specs.Int.{bit_at}
-use Rattle.std.specs.Simd.Lanes.{Each1, chunk, mask_l, sel_l, top, zip2}
-use Rattle.std.specs.List.{range_with_len}
+use Rattle.std.specs.Simd.Lanes.{Each1, chunk, sel_l, top, zip2}
+use Rattle.byte_kernels.specs.Marks.{all_bits_where}
+use Rattle.byte_kernels.proofs.LaneLemmas.{chosen_where, sel_of_maps}
 use Rattle.byte_kernels.specs.declared.table.TheConstants.{COLUMNS}
 use Rattle.std.proofs.lemmas.List.FromFn.{get_or-map-range_with_len}
 use Rattle.std.proofs.lemmas.Bool.{cases_lt, cases_eq, eq-eqb, ne_eqb, lt-ltb, le-ltb}
@@ -10,7 +11,7 @@ use Rattle.std.proofs.lemmas.Grind.{same_number_lists}
 use Rattle.std.proofs.lemmas.List.{get_or-map, length-map}
 use Rattle.std.proofs.lemmas.Nat.{and_mask}
 use Rattle.std.proofs.lemmas.Nat.Bits.{and_pow, bit_at-lt}
-use Rattle.std.proofs.lemmas.Simd.{swz_l, length-swz_l, get_or-swz_l_below, Each1-get_or, get_or-chunk, map-map, zip2_of_maps, zip2_splat, tops_compared, mask_l-mod}
+use Rattle.std.proofs.lemmas.Simd.{swz_l, length-swz_l, get_or-swz_l_below, Each1-get_or, get_or-chunk, map-map, zip2_of_maps, zip2_splat, tops_compared}
 
 -- ---- lists that are computed lane by lane
 
@@ -21,10 +22,6 @@ map_each P f g same (x ∷ xs) each = λ i. same x each.0 i ∷ map_each P f g s
 pub Each1-map : {X Y : Type 0} (P : X → Type 0) (Q : Y → Type 0) (f : X → Y) → ((x : X) → P x → Q (f x)) → (xs : List X) → Each1 P xs → Each1 Q (map f xs)
 Each1-map P Q f holds [] each = tt
 Each1-map P Q f holds (x ∷ xs) each = (holds x each.0, Each1-map P Q f holds xs each.1)
-
-pub sel_of_maps : {X : Type 0} (p : X → Bool) (f g : X → ℕ) (xs : List X) → sel_l (map p xs) (map f xs) (map g xs) ≡ map (λ x. cond (p x) (f x) (g x)) xs
-sel_of_maps p f g [] = refl
-sel_of_maps p f g (x ∷ xs) = ap (λ rest. cond (p x) (f x) (g x) ∷ rest) (sel_of_maps p f g xs)
 
 -- ---- the steps of a look-up
 
@@ -60,17 +57,15 @@ alone row column =
           ne_eqb _ _ (λ is. omega arith) ∙ sym (ne_eqb _ _ unset)
     ]
 
-pub marks_in_rows : (row column : ℕ → ℕ) (bytes rows columns : List ℕ) → length bytes ≡ 16 → rows ≡ map row bytes → columns ≡ map (λ byte. 2 ^ column byte) bytes
-    → mask_l (map (top 7) (zip2 (λ a b. cond (eqb a b) 255 0) (zip2 bit_and rows columns) columns)) % 2 ^ 64
-    ≡ mask_l (map (λ byte. eqb (bit_at (row byte) (column byte)) 1) bytes)
-marks_in_rows row column bytes rows columns long rows_are columns_are =
+pub lanes_of_rows : (row column : ℕ → ℕ) (bytes rows columns : List ℕ) → length bytes ≡ 16 → rows ≡ map row bytes → columns ≡ map (λ byte. 2 ^ column byte) bytes
+    → sel_l (map (top 7) (zip2 (λ a b. cond (eqb a b) 255 0) (zip2 bit_and rows columns) columns)) (replicate 16 255) (replicate 16 0)
+    ≡ all_bits_where (λ byte. eqb (bit_at (row byte) (column byte)) 1) bytes
+lanes_of_rows row column bytes rows columns long rows_are columns_are =
     let bit = λ (byte : ℕ). 2 ^ column byte in
     let both = zip2_of_maps bit_and row bit bytes rows_are columns_are in
     let tests = zip2_of_maps eqb (λ byte. bit_and (row byte) (bit byte)) bit bytes both columns_are in
-    let test = λ (byte : ℕ). eqb (bit_at (row byte) (column byte)) 1 in
-    ap (λ lanes. mask_l lanes % 2 ^ 64) (tops_compared w8 eqb (zip2 bit_and rows columns) columns ∙ tests)
-    ∙ (λ i. mask_l (map (λ byte. alone (row byte) (column byte) i) bytes) % 2 ^ 64)
-    ∙ mask_l-mod (map test bytes) 64 (omega (arith, length-map bytes test))
+    chosen_where (λ byte. eqb (bit_at (row byte) (column byte)) 1) bytes long
+    (tops_compared w8 eqb (zip2 bit_and rows columns) columns ∙ tests ∙ (λ i. map (λ byte. alone (row byte) (column byte) i) bytes))
 
 column_at : (half : ℕ) → half < 16 → get_or COLUMNS half 0 ≡ 2 ^ (half % 8)
 column_at half lt = get_or-map-range_with_len (λ h. 2 ^ (h % 8)) 0 16 half half 0 lt (omega arith)

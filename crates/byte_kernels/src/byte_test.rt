@@ -1,9 +1,8 @@
-//! Tests of bytes, of one or of 16 at a time, and the places of slices that meet them.
+//! Tests of bytes, of one or of 16 at a time.
 
-ghost use Rattle.std.specs.Prelude.{◌≡◌, ◌==◌, ◌&&◌, ℕ, Bool, not, nat_le, length, map, slice_index};
-ghost use Rattle.std.specs.Simd.Lanes.{mask_l};
+ghost use Rattle.std.specs.Prelude.{◌≡◌, ◌==◌, ◌&&◌, ◌||◌, ℕ, Bool, not, nat_le};
+ghost use Rattle.byte_kernels.specs.Marks.{all_bits_where};
 
-use crate::scan::Places;
 use std::simd::prelude::*;
 
 /// A test of a byte.
@@ -15,9 +14,9 @@ pub(crate) trait ByteTest {
     fn byte(&self, byte: u8) -> bool
         ensures { result ≡ meets self.now byte };
 
-    /// Which of 16 bytes meet it, a bit for each, and the lowest bit for the first.
-    fn group(&self, bytes: u8x16) -> u64
-        ensures { result ≡ mask_l (map (meets self.now) bytes) };
+    /// Which of 16 bytes meet it: a lane has all bits where its byte does, and none where it doesn't.
+    fn lanes(&self, bytes: u8x16) -> u8x16
+        ensures { result ≡ all_bits_where (meets self.now) bytes };
 }
 
 /// The test of being one byte.
@@ -33,8 +32,10 @@ impl ByteTest for Just {
     }
 
     #[inline(always)]
-    fn group(&self, bytes: u8x16) -> u64 {
-        bytes.simd_eq(u8x16::splat(self.0)).to_bitmask()
+    fn lanes(&self, bytes: u8x16) -> u8x16 {
+        bytes
+            .simd_eq(u8x16::splat(self.0))
+            .select(u8x16::splat(255), u8x16::splat(0))
     }
 }
 
@@ -54,9 +55,28 @@ impl ByteTest for Within {
     }
 
     #[inline(always)]
-    fn group(&self, bytes: u8x16) -> u64 {
+    fn lanes(&self, bytes: u8x16) -> u8x16 {
         let from_low = bytes.simd_ge(u8x16::splat(self.low));
-        (from_low & bytes.simd_le(u8x16::splat(self.high))).to_bitmask()
+        let up_to_high = bytes.simd_le(u8x16::splat(self.high));
+        (from_low & up_to_high).select(u8x16::splat(255), u8x16::splat(0))
+    }
+}
+
+/// The test of meeting one of two tests.
+#[derive(Clone, Copy, Debug)]
+pub(crate) struct Either<A, B>(pub(crate) A, pub(crate) B);
+
+impl<A: ByteTest, B: ByteTest> ByteTest for Either<A, B> {
+    ghost meets = { λ test byte. A.meets test.0 byte || B.meets test.1 byte };
+
+    #[inline(always)]
+    fn byte(&self, byte: u8) -> bool {
+        self.0.byte(byte) || self.1.byte(byte)
+    }
+
+    #[inline(always)]
+    fn lanes(&self, bytes: u8x16) -> u8x16 {
+        self.0.lanes(bytes) | self.1.lanes(bytes)
     }
 }
 
@@ -73,30 +93,7 @@ impl<T: ByteTest> ByteTest for Not<'_, T> {
     }
 
     #[inline(always)]
-    fn group(&self, bytes: u8x16) -> u64 {
-        0xffff - self.0.group(bytes)
-    }
-}
-
-/// The bytes of a slice, as places that meet a test.
-#[derive(Drop)]
-pub(crate) struct In<'a, T> {
-    pub(crate) hay: &'a [u8],
-    pub(crate) test: &'a T,
-}
-
-impl<T: ByteTest> Places for In<'_, T> {
-    ghost count = { λ places. length places.hay.now };
-
-    ghost meets = { λ places place. T.meets places.test.now (slice_index places.hay.now place) };
-
-    #[inline(always)]
-    fn at(&self, place: usize) -> bool {
-        self.test.byte(self.hay[place])
-    }
-
-    #[inline(always)]
-    fn group(&self, from: usize) -> u64 {
-        self.test.group(u8x16::from_slice(&self.hay[from..]))
+    fn lanes(&self, bytes: u8x16) -> u8x16 {
+        self.0.lanes(bytes) ^ u8x16::splat(255)
     }
 }

@@ -5,8 +5,7 @@ ghost use Rattle.byte_kernels.specs.ByteSet.{contains};
 ghost use Rattle.byte_kernels.specs.Scan.{last_position};
 
 use crate::byte_set::{ByteSet, Form};
-use crate::byte_test::{In, Not};
-use crate::scan::{first, last};
+use crate::search::{first_with, first_without, last_with};
 use memchr::{memchr, memrchr};
 
 /// The index of the first byte of `hay` that is in the set, as `IndexOfAny` of .NET's spans.
@@ -15,7 +14,9 @@ pub fn index_of_any(hay: &[u8], set: &ByteSet) -> Option<usize>
 {
     match &set.form {
         Form::One(just) => memchr(just.0, hay),
-        Form::Many(table) => first(&In { hay, test: table }, hay.len()),
+        Form::Two(test) => first_with(hay, test),
+        Form::Four(test) => first_with(hay, test),
+        Form::Many(test) => first_with(hay, test),
     }
 }
 
@@ -25,7 +26,9 @@ pub fn last_index_of_any(hay: &[u8], set: &ByteSet) -> Option<usize>
 {
     match &set.form {
         Form::One(just) => memrchr(just.0, hay),
-        Form::Many(table) => last(&In { hay, test: table }, hay.len()),
+        Form::Two(test) => last_with(hay, test),
+        Form::Four(test) => last_with(hay, test),
+        Form::Many(test) => last_with(hay, test),
     }
 }
 
@@ -34,7 +37,9 @@ pub fn index_of_any_except(hay: &[u8], set: &ByteSet) -> Option<usize>
     ensures { result ≡ position (λ byte. not (contains set.now byte)) hay.now }
 {
     match &set.form {
-        Form::One(just) => first(&In { hay, test: &Not(just) }, hay.len()),
-        Form::Many(table) => first(&In { hay, test: &Not(table) }, hay.len()),
+        Form::One(test) => first_without(hay, test),
+        Form::Two(test) => first_without(hay, test),
+        Form::Four(test) => first_without(hay, test),
+        Form::Many(test) => first_without(hay, test),
     }
 }

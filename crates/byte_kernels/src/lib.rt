@@ -10,6 +10,7 @@ mod marks;
 pub mod plain;
 mod range;
 mod scan;
+mod search;
 mod table;
 #[cfg(test)]
 mod tests;

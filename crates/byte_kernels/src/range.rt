@@ -2,8 +2,8 @@
 
 ghost use Rattle.std.specs.Prelude.{◌≡◌, ◌&&◌, not, nat_le, position};
 
-use crate::byte_test::{In, Not, Within};
-use crate::scan::first;
+use crate::byte_test::Within;
+use crate::search::{first_with, first_without};
 
 /// The index of the first byte of `hay` from `low` up to `high`, both included, as `IndexOfAnyInRange` of .NET's spans.
 ///
@@ -11,14 +11,12 @@ use crate::scan::first;
 pub fn index_in_range(hay: &[u8], low: u8, high: u8) -> Option<usize>
     ensures { result ≡ position (λ byte. nat_le low byte && nat_le byte high) hay.now }
 {
-    let test = &Within { low, high };
-    first(&In { hay, test }, hay.len())
+    first_with(hay, &Within { low, high })
 }
 
 /// The index of the first byte of `hay` below `low` or above `high`, as `IndexOfAnyExceptInRange` of .NET's spans.
 pub fn index_not_in_range(hay: &[u8], low: u8, high: u8) -> Option<usize>
     ensures { result ≡ position (λ byte. not (nat_le low byte && nat_le byte high)) hay.now }
 {
-    let test = &Not(&Within { low, high });
-    first(&In { hay, test }, hay.len())
+    first_without(hay, &Within { low, high })
 }

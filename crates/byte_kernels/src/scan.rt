@@ -31,6 +31,9 @@ pub(crate) fn first<P: Places>(places: &P, count: usize) -> Option<usize>
     requires { count ≡ P.count places.now }
     ensures { IsFirst (λ place. IsTrue (P.meets places.now place)) 0 count result }
 {
+    if count < 16 {
+        return first_by_1(places, 0, count);
+    }
     let mut from = 0;
     while count - from >= 64 {
         let marks = group_of_64(places, from);
@@ -79,6 +82,9 @@ pub(crate) fn last<P: Places>(places: &P, count: usize) -> Option<usize>
     requires { count ≡ P.count places.now }
     ensures { IsLast (λ place. IsTrue (P.meets places.now place)) 0 count result }
 {
+    if count < 16 {
+        return last_by_1(places, count);
+    }
     let mut to = count;
     while to >= 64 {
         let marks = group_of_64(places, to - 64);

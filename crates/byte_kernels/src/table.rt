@@ -1,7 +1,7 @@
 //! Sets of any number of bytes, as a bit for each byte.
 
 ghost use Rattle.std.specs.Prelude.{◌≡◌, ◌||◌, ◌==◌, ◌/◌, ◌%◌, ◌^◌, ℕ, ◌<◌, map, slice_index};
-ghost use Rattle.std.specs.Simd.Lanes.{Each1, mask_l};
+ghost use Rattle.std.specs.Simd.Lanes.{Each1};
 ghost use Rattle.byte_kernels.specs.ByteSet.{has, row_of};
 
 use crate::byte_test::ByteTest;
@@ -36,7 +36,8 @@ fn row(byte: u8) -> usize
     ensures row { result ≡ row_of byte }
     ensures within { result < 32 }
 {
-    usize::from(byte % 16 + 16 * (byte / 128))
+    let byte = usize::from(byte);
+    byte % 16 + 16 * (byte / 128)
 }
 
 impl ByteTest for Table {
@@ -48,11 +49,11 @@ impl ByteTest for Table {
     }
 
     #[inline(always)]
-    fn group(&self, bytes: u8x16) -> u64 {
+    fn lanes(&self, bytes: u8x16) -> u8x16 {
         let columns = columns_of(bytes);
         (self.rows_of(bytes) & columns)
             .simd_eq(columns)
-            .to_bitmask()
+            .select(u8x16::splat(255), u8x16::splat(0))
     }
 }
 

@@ -77,10 +77,22 @@ fn a_hit_at_the_end_is_found_at_each_length(rt: HostRuntime) -> Result<(), Fail>
 // All searches of bytes, as the plain loops make them.
 fn check_against_plain(rt: &impl Abort, hay: &[u8], other: &[u8], set: &ByteSet) {
     assert_eq!(rt; index_of_any(hay, set), plain::index_of_any(hay, set));
-    assert_eq!(rt; last_index_of_any(hay, set), plain::last_index_of_any(hay, set));
-    assert_eq!(rt; index_of_any_except(hay, set), plain::index_of_any_except(hay, set));
-    assert_eq!(rt; index_in_range(hay, 100, 180), plain::index_in_range(hay, 100, 180));
-    assert_eq!(rt; index_not_in_range(hay, 1, 254), plain::index_not_in_range(hay, 1, 254));
+    assert_eq!(rt;
+        last_index_of_any(hay, set),
+        plain::last_index_of_any(hay, set)
+    );
+    assert_eq!(rt;
+        index_of_any_except(hay, set),
+        plain::index_of_any_except(hay, set)
+    );
+    assert_eq!(rt;
+        index_in_range(hay, 100, 180),
+        plain::index_in_range(hay, 100, 180)
+    );
+    assert_eq!(rt;
+        index_not_in_range(hay, 1, 254),
+        plain::index_not_in_range(hay, 1, 254)
+    );
     assert_eq!(rt; common_front(hay, other), plain::common_front(hay, other));
 }
 

@@ -1,5 +1,5 @@
 -- A shift by 4 bits is a quotient.
-use Rattle.std.proofs.Common.{◌<◌, ◌/◌, ℕ, sym, subst, arith}
+use Rattle.std.proofs.Common.{◌<◌, ◌/◌, sym, subst, arith}
 use Rattle.std.specs.Simd.Lanes.{Each1}
 use Rattle.byte_kernels.proofs.TableLemmas.{high_halves_are, Each1-map}
 use Rattle.byte_kernels.proofs.table.high_halves.Goals as goal

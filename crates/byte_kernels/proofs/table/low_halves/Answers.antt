@@ -1,7 +1,6 @@
 -- A mask of 4 bits is a remainder.
-use Rattle.std.proofs.Common.{◌<◌, ◌%◌, ℕ, sym, subst, arith}
+use Rattle.std.proofs.Common.{◌<◌, ◌%◌, sym, subst, arith}
 use Rattle.std.specs.Simd.Lanes.{Each1}
-use Rattle.std.proofs.lemmas.Simd.{Each1-all}
 use Rattle.byte_kernels.proofs.TableLemmas.{low_halves_are, Each1-map}
 use Rattle.byte_kernels.proofs.table.low_halves.Goals as goal
 
