@@ -1,1 +1,5 @@
 pub mod BitLemmas
+pub mod LaneLemmas
+pub mod MarksLemmas
+pub mod PlaceLemmas
+pub mod TableLemmas

@@ -1,2 +1,3 @@
 pub mod ByteSet
+pub mod Marks
 pub mod Scan

@@ -1,12 +1,22 @@
-//! Sets of bytes, and searches of a slice for the first byte of a set.
+//! Sets of bytes, and searches of slices: for a byte of a set or a range, and for the first difference.
 #![tactic(auto)]
 
 mod byte_set;
+mod byte_test;
 mod cases;
+mod front;
 mod index;
+mod marks;
+pub mod plain;
+mod range;
+mod scan;
+mod search;
+mod table;
 #[cfg(test)]
 mod tests;
 
 pub use byte_set::ByteSet;
 pub use cases::{front_cases, scan_cases};
-pub use index::{index_of_any, index_of_any_except};
+pub use front::common_front;
+pub use index::{index_of_any, index_of_any_except, last_index_of_any};
+pub use range::{index_in_range, index_not_in_range};

@@ -1,0 +1,11 @@
+-- No place was passed that meets the test.
+use Rattle.std.proofs.Common.{◌-◌, ◌≤◌}
+use Rattle.std.specs.Prelude.{IsTrue}
+use Rattle.memchr.specs.Find.{Nowhere}
+use Rattle.byte_kernels.proofs.scan.first.Given as goal
+
+abbrev pub invariant-loop-from : goal.invariant-loop-from
+invariant-loop-from g l = (l.from ≤ l.count) × Nowhere (λ place. IsTrue (g.P.Places.meets l.places place)) 0 l.from
+
+abbrev pub decreases-loop-from : goal.decreases-loop-from
+decreases-loop-from g l = l.count - l.from

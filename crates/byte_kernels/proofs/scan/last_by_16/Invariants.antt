@@ -1,0 +1,11 @@
+-- No place was passed that meets the test.
+use Rattle.std.proofs.Common.{◌≤◌}
+use Rattle.std.specs.Prelude.{IsTrue}
+use Rattle.memchr.specs.Find.{Nowhere}
+use Rattle.byte_kernels.proofs.scan.last_by_16.Given as goal
+
+abbrev pub invariant-loop-to : goal.invariant-loop-to
+invariant-loop-to g l = (l.to ≤ l.end) × Nowhere (λ place. IsTrue (g.P.Places.meets l.places place)) l.to l.end
+
+abbrev pub decreases-loop-to : goal.decreases-loop-to
+decreases-loop-to g l = l.to

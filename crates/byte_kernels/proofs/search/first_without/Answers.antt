@@ -1,0 +1,7 @@
+-- The first place is the first position.
+use Rattle.std.proofs.Common.{not}
+use Rattle.byte_kernels.proofs.PlaceLemmas.{first_is_position}
+use Rattle.byte_kernels.proofs.search.first_without.Goals as goal
+
+pub returns : goal.returns
+returns g c = first_is_position (λ byte. not (g.T.ByteTest.meets c.args.test.now byte)) c.args.hay.now c.first.result c.first.ensures
