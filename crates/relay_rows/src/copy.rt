@@ -1,6 +1,6 @@
 //! `copy`, between devices in memory.
 
-use edge_core::{MemSink, MemSource};
+use edge_core::{MemSink, MemSource, Source};
 use relay_top::relay_local;
 use std::alloc::{AllocError, Global};
 use std::test::Fail;
@@ -51,18 +51,25 @@ fn strings(alloc: Global, texts: &[&str]) -> Result<Vec<String>, AllocError> {
     Ok(words)
 }
 
-fn holds(alloc: Global, case: &Case<'_>) -> Result<bool, AllocError> {
-    let words = strings(alloc, case.words)?;
-    let content = case.input.to_vec(alloc)?;
-    let mut source = MemSource::make(
-        content,
+fn source_of(alloc: Global, case: &Case<'_>) -> Result<MemSource, AllocError> {
+    Ok(MemSource::make(
+        case.input.to_vec(alloc)?,
         case.cuts.to_vec(alloc)?,
         case.failing_reads.to_vec(alloc)?,
-    );
+    ))
+}
+
+fn holds(alloc: Global, case: &Case<'_>) -> Result<bool, AllocError> {
+    holds_from(alloc, case, &mut source_of(alloc, case)?)
+}
+
+/// The same, of a source that the caller looks at behind the relay.
+fn holds_from(alloc: Global, case: &Case<'_>, source: &mut MemSource) -> Result<bool, AllocError> {
+    let words = strings(alloc, case.words)?;
     let caps = case.caps.to_vec(alloc)?;
     let mut sink = MemSink::make(alloc, 131_072, caps, case.failing_writes.to_vec(alloc)?)?;
     let mut faults = MemSink::make(alloc, 64, Vec::new(alloc), Vec::new(alloc))?;
-    let status = relay_local(alloc, words.as_slice(), &mut source, &mut sink, &mut faults);
+    let status = relay_local(alloc, words.as_slice(), source, &mut sink, &mut faults);
     Ok(status == case.status && sink.bytes() == case.output && faults.bytes() == case.line)
 }
 
@@ -162,6 +169,91 @@ fn a_fault_of_a_device_ends_the_relay(rt: HostRuntime) -> Result<(), Fail> {
     ];
     for case in &cases {
         assert!(rt; holds(alloc, case)?);
+    }
+    Ok(())
+}
+
+#[test]
+fn no_more_is_read_behind_a_bad_frame_or_a_fault(rt: HostRuntime) -> Result<(), Fail> {
+    let alloc = rt.alloc();
+    let cases = [
+        Case {
+            cuts: &[4, 3],
+            ..plain(
+                LEN4_LINE,
+                &[0, 1, 0, 1, b'a', b'b', b'c'],
+                b"",
+                2,
+                b"bad frame at 0: length 65537\n",
+            )
+        },
+        Case {
+            cuts: &[5, 3],
+            failing_writes: &[1],
+            ..plain(
+                LEN4_LINE,
+                &[0, 0, 0, 1, b'a', 0, 0, 0],
+                b"",
+                5,
+                b"write fault after 0\n",
+            )
+        },
+        Case {
+            cuts: &[5, 3],
+            failing_reads: &[2],
+            ..plain(
+                LEN4_LINE,
+                &[0, 0, 0, 1, b'a', 0, 0, 0],
+                b"a\n",
+                4,
+                b"read fault after 5\n",
+            )
+        },
+    ];
+    for case in &cases {
+        let mut source = source_of(alloc, case)?;
+        assert!(rt; holds_from(alloc, case, &mut source)?);
+        assert_eq!(rt; source.read(&mut [0; 8]), Ok(3));
+    }
+    Ok(())
+}
+
+/// The third read fails: two reads of a segment came before it, or else the end of the input.
+#[test]
+fn a_read_takes_at_most_a_segment(rt: HostRuntime) -> Result<(), Fail> {
+    let alloc = rt.alloc();
+    let bytes = [b'\n'; 8193];
+    let cases: [(&[&str], usize, usize, u8, &[u8]); 5] = [
+        (
+            &["copy", "line", "line", "seg=64"],
+            128,
+            128,
+            4,
+            b"read fault after 128\n",
+        ),
+        (&["copy", "line", "line", "seg=64"], 64, 64, 0, b""),
+        (
+            &["copy", "line", "line", "seg=65"],
+            131,
+            130,
+            4,
+            b"read fault after 130\n",
+        ),
+        (
+            &["copy", "line", "line"],
+            8193,
+            8192,
+            4,
+            b"read fault after 8192\n",
+        ),
+        (&["copy", "line", "line"], 4096, 4096, 0, b""),
+    ];
+    for (words, given, taken, status, line) in cases {
+        let case = Case {
+            failing_reads: &[3],
+            ..plain(words, &bytes[..given], &bytes[..taken], status, line)
+        };
+        assert!(rt; holds(alloc, &case)?);
     }
     Ok(())
 }
