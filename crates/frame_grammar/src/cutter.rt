@@ -31,6 +31,7 @@ pub enum Cut {
 ///
 /// Of lines, the first `known` bytes were searched before and have no line feed; they aren't searched again. Where more of a
 /// line is wanted, none of its bytes is a line feed. Nothing else depends on `known`.
+#[inline(always)]
 pub fn next_frame<C: Spans>(
     framing: Framing,
     max: u64,
@@ -54,6 +55,7 @@ pub fn next_frame<C: Spans>(
     }
 }
 
+#[inline(always)]
 fn behind_four<C: Spans>(max: u64, seq: &Sequence<'_, C>, at_end: bool) -> Cut
     ensures { result ≡ answer_on Framing.Len4 (bytes seq.now) at_end (front Framing.Len4 max (bytes seq.now)) }
 {
@@ -74,6 +76,7 @@ fn behind_four<C: Spans>(max: u64, seq: &Sequence<'_, C>, at_end: bool) -> Cut
     }
 }
 
+#[inline(always)]
 fn behind_two<C: Spans>(max: u64, seq: &Sequence<'_, C>, at_end: bool) -> Cut
     ensures { result ≡ answer_on Framing.Len2 (bytes seq.now) at_end (front Framing.Len2 max (bytes seq.now)) }
 {
@@ -107,6 +110,7 @@ fn incomplete<C: Spans>(seq: &Sequence<'_, C>, at_end: bool) -> Cut
     }
 }
 
+#[inline(always)]
 fn line<C: Spans>(max: u64, seq: &Sequence<'_, C>, known: u64, at_end: bool) -> Cut
     requires within { known ≤ length (bytes seq.now) }
     requires searched { IsNone (position is_line_feed (take known (bytes seq.now))) }

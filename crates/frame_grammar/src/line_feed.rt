@@ -22,6 +22,7 @@ pub fn first_line_feed<C: Spans>(seq: &Sequence<'_, C>, known: u64) -> Option<u6
 }
 
 /// How many bytes stand before the first line feed, or how many there are.
+#[inline(always)]
 pub fn line_len<C: Spans>(seq: &Sequence<'_, C>, known: u64) -> u64
     requires within { known ≤ length (bytes seq.now) }
     requires searched { IsNone (position is_line_feed (take known (bytes seq.now))) }

@@ -11,6 +11,7 @@ use span_seq::{Sequence, Spans};
 
 /// Whether a payload has a frame. The refusal is always `Unspellable`, at the index of the first byte for which it has none:
 /// a line feed in a line, and the first byte that is one too many for the head of a counted frame.
+#[inline(always)]
 pub fn can_spell<C: Spans>(framing: Framing, payload: &Sequence<'_, C>) -> Result<(), BadKind>
     ensures { MatchOption (obstacle framing (bytes payload.now)) (result ≡ Ok tt) (λ at. result ≡ Err (BadKind.Unspellable at)) }
 {

@@ -15,7 +15,7 @@ use Rattle.frame_model.proofs.FrontLemmas.{front_empty}
 use Rattle.frame_model.proofs.FrameLemmas.{spelling_len}
 use Rattle.frame_grammar.specs.Answers.{BeginsWithFrame}
 use Rattle.relay_model.specs.Run.{payloads_of}
-use Rattle.relay_engine.specs.Frames.{Passes, capped}
+use Rattle.relay_engine.specs.Frames.{IsFirst, Passes, capped}
 
 -- ---- one frame
 
@@ -194,3 +194,15 @@ one_frame job x at_end from to n frame spelt = record {
   listed = frame_listed job x at_end from to n frame spelt;
   goes_on = frame_goes_on job x at_end from to n frame spelt;
 }
+
+-- and its payload is the first that is to be written
+pub is_first : (job : Job) (x : List ℕ) (at_end : Bool) (from to n : ℕ) (p : List ℕ) → p ≡ slice_range x from to → BeginsWithFrame job.input job.max x at_end from to n → IsNone (obstacle job.output p) → IsFirst job x at_end p n
+is_first job x at_end from to n p is frame spelt =
+    let same = rw is at spelt in
+    rw is (record {
+      passes = one_frame job x at_end from to n frame same;
+      others = payloads_of job (drop n x ++ []) at_end;
+      first = listed_first job x at_end from to n frame same;
+      spelt = same;
+      some = omega (arith, frame.some);
+    })

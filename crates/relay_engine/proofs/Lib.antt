@@ -3,11 +3,11 @@ mod DeviceLemmas
 mod DrainLemmas
 mod FillLemmas
 mod FrameLemmas
+mod GatherLemmas
 mod PlainLemmas
 mod PumpEndLemmas
 mod PumpFillLemmas
 mod PumpLemmas
 mod StepLemmas
 mod TellLemmas
-mod TextLemmas
 mod WriteLemmas

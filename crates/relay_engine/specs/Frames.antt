@@ -1,19 +1,16 @@
 -- What is written of the frames of some bytes.
-use Rattle.std.specs.Prelude.{ℕ, ◌≡◌, ◌<◌, ◌≤◌, ◌*◌, ◌-◌, ◌^◌, min, Bool, List, [], ◌∷◌, ◌++◌, length, drop, position, IsNone}
+use Rattle.std.specs.Prelude.{ℕ, ◌≡◌, ◌<◌, ◌≤◌, ◌*◌, ◌-◌, ◌^◌, min, Bool, List, [], ◌∷◌, ◌++◌, length, drop, take, position, IsNone}
 use Rattle.std.specs.Io.KnownBytes.{Appends}
 use mathlib.Core.List.{IsPrefix}
 use Rattle.edge_core.specs.Device.{SinkState, Takes, HasRisen}
 use Rattle.frame_model.specs.declared.job.Job.{Job}
 use Rattle.frame_model.specs.declared.framing.Framing.TheVariants.{Line}
-use Rattle.frame_model.specs.Spelling.{is_line_feed, longest_frame, spelling, text as text_of}
+use Rattle.frame_model.specs.Spelling.{is_line_feed, longest_frame, obstacle, spelling, text as text_of}
 use Rattle.frame_model.specs.Cut.{Verdict, Open, End, Rest, Bad, MayCome}
 use Rattle.frame_model.specs.Translation.{translation, behind}
 use Rattle.relay_model.specs.Run.{payloads_of}
-use Rattle.relay_engine.specs.Text.{BreaksWithin}
 use Rattle.relay_engine.specs.declared.frames.Stop.{Stop}
 use Rattle.relay_engine.specs.declared.frames.Stop.TheVariants as stops
-use Rattle.relay_engine.specs.declared.frames.Step.{Step}
-use Rattle.relay_engine.specs.declared.frames.Step.TheVariants.{Passed, Stopped}
 use Rattle.relay_engine.specs.declared.frames.Drained.{Drained}
 use Rattle.relay_engine.specs.declared.frames.Broken.{Broken}
 
@@ -46,24 +43,13 @@ pub record StopsAt (job : Job) (bytes : List ℕ) (at_end : Bool) (stop : Stop) 
   pub short : stop ≡ stops.More → length bytes < longest_frame job.input job.max
   pub unended : stop ≡ stops.More → job.input ≡ Line → IsNone (position is_line_feed bytes)
 
--- One frame was passed over, and written.
-pub record PassesOne (job : Job) (bytes : List ℕ) (at_end : Bool) (before : SinkState) (len written : ℕ) (after : SinkState) : Type 0 where
-  pub text : List ℕ
-  pub passes : Passes job bytes at_end len 1 text
-  pub taken : Takes before text after
-  pub counted : written ≡ length text
-
-abbrev pub PassesFirst : Job → List ℕ → Bool → SinkState → Step → SinkState → Type 0
-PassesFirst job bytes at_end before (Passed len written) after = PassesOne job bytes at_end before len written after
-PassesFirst job bytes at_end before (Stopped stop) after = (after ≡ before) × StopsAt job bytes at_end stop
-
--- A call of the sink failed within the first frame.
-pub record BreaksFirst (job : Job) (bytes : List ℕ) (at_end : Bool) (before : SinkState) (written : ℕ) (after : SinkState) : Type 0 where
-  pub payload : List ℕ
+-- A payload that can be spelt, and its frame of so many bytes, come first.
+pub record IsFirst (job : Job) (bytes : List ℕ) (at_end : Bool) (payload : List ℕ) (len : ℕ) : Type 0 where
+  pub passes : Passes job bytes at_end len 1 (spelling job.output payload)
   pub others : List (List ℕ)
   pub first : payloads_of job bytes at_end ≡ payload ∷ others
-  pub broken : BreaksWithin before (spelling job.output payload) written after
-  pub bounded : length (spelling job.output payload) ≤ 5 * length bytes
+  pub spelt : IsNone (obstacle job.output payload)
+  pub some : 0 < len
 
 -- All that can be passed on was, up to where it stopped.
 pub record Drains (job : Job) (bytes : List ℕ) (at_end : Bool) (before : SinkState) (drained : Drained) (after : SinkState) : Type 0 where
@@ -88,3 +74,23 @@ pub record Breaks (job : Job) (bytes : List ℕ) (at_end : Bool) (before : SinkS
   pub risen : HasRisen before.faults after.faults
   pub counted : broken.written ≡ capped (length (text ++ part))
   pub bounded : length (text ++ part) ≤ 5 * length bytes
+
+-- A call of the sink failed. A front of what is to be written came to it, of so many bytes, and not all.
+pub record Interrupts (job : Job) (bytes : List ℕ) (at_end : Bool) (before : SinkState) (passed : ℕ) (after : SinkState) : Type 0 where
+  pub short : passed < length (translation job bytes at_end).text
+  pub written : Appends before.written after.written (take passed (translation job bytes at_end).text)
+  pub risen : HasRisen before.faults after.faults
+  pub bounded : passed ≤ 5 * length bytes
+
+-- So many frames are whole in the first `written` bytes of what is to be written. Behind them is a part of the next one.
+pub record CountsWhole (job : Job) (bytes : List ℕ) (at_end : Bool) (written frames : ℕ) : Type 0 where
+  pub len : ℕ
+  pub text : List ℕ
+  pub passes : Passes job bytes at_end len frames text
+  pub next : List ℕ
+  pub others : List (List ℕ)
+  pub stands_next : payloads_of job (drop len bytes) at_end ≡ next ∷ others
+  pub part : List ℕ
+  pub is_part : IsPrefix part (spelling job.output next)
+  pub short : length part < length (spelling job.output next)
+  pub whole : take written (translation job bytes at_end).text ≡ text ++ part

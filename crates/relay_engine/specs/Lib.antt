@@ -1,5 +1,5 @@
 pub mod Frames
-pub mod Text
+pub mod Gathering
 pub mod Tell
 pub mod Ends
 pub mod Filler

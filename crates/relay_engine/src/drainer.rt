@@ -10,6 +10,7 @@ ghost use Rattle.relay_engine.specs.Passing.{Finishes, IsKnown, PassesOn, added,
 
 use crate::ends::DrainPipe;
 use crate::frames::{Stop, write_lent};
+use crate::gathering::Gathering;
 use edge_core::Sink;
 use frame_grammar::{BadKind, Job};
 use pipe_core::{PlainPipe, ReadReply};
@@ -71,13 +72,14 @@ pub enum DrainStep {
 }
 
 /// Writes the frames of what a pipe lends to a sink, in steps that may come in any order with the writer's calls.
-#[derive(Debug, Drop)]
+#[derive(Drop)]
 pub struct Drainer {
     job: Job,
     place: u64,
     frames: u64,
     written: u64,
     known: u64,
+    gathering: Gathering,
 }
 
 impl Model for Drainer {
@@ -99,6 +101,7 @@ impl Drainer {
             frames: 0,
             written: 0,
             known: 0,
+            gathering: Gathering::new(),
         }
     }
 
@@ -156,7 +159,9 @@ impl Drainer {
         let known = self.known;
         let lent = pipe.lent();
         let len = lent.len() as u64;
-        match write_lent(&self.job, lent, known, is_success(ended), sink) {
+        let job = self.job;
+        let gathering = &mut self.gathering;
+        match write_lent(&job, lent, known, is_success(ended), gathering, sink) {
             Ok(drained) => {
                 self.add(
                     drained.passed,

@@ -1,14 +1,14 @@
 //! The whole frames of some bytes, written as the output spells them.
 
-ghost use Rattle.std.specs.Prelude.{◌≡◌, ◌≤◌, ◌^◌, length, position, slice_range, take, IsNone, IfOk, IfErr};
-ghost use Rattle.edge_core.specs.Device.{Takes};
+ghost use Rattle.std.specs.Prelude.{◌≡◌, ◌+◌, ◌<◌, ◌≤◌, ◌^◌, [], length, position, slice_range, take, IsNone, IfOk, IfErr, OnErr};
 ghost use Rattle.frame_model.specs.Spelling.{is_line_feed, obstacle, spelling};
+ghost use Rattle.frame_model.specs.Translation.{translation};
 ghost use Rattle.span_seq.specs.Sequence.{bytes};
-ghost use Rattle.relay_engine.specs.Text.{BreaksWithin};
-ghost use Rattle.relay_engine.specs.Frames.{Breaks, BreaksFirst, Drains, PassesFirst};
+ghost use Rattle.relay_engine.specs.Frames.{Breaks, CountsWhole, Drains, Interrupts, IsFirst, StopsAt};
+ghost use Rattle.relay_engine.specs.Gathering.{Puts, PutsFront, begun};
 
-use crate::text::{write_behind, write_parts};
-use edge_core::{BrokenOff, Sink};
+use crate::gathering::Gathering;
+use edge_core::{Failed, Sink};
 use frame_grammar::{BadKind, Cut, Framing, Job, can_spell, next_frame, spell_head, spell_tail};
 use span_seq::{One, Sequence, Spans};
 
@@ -23,14 +23,6 @@ pub enum Stop {
     Rest,
     /// The frame is bad.
     Bad(BadKind),
-}
-
-/// What became of the first frame.
-#[derive(Clone, Copy)]
-pub enum Step {
-    /// It has `len` bytes, and was written, in `written` bytes.
-    Passed { len: u64, written: u64 },
-    Stopped(Stop),
 }
 
 /// How many bytes were passed over, in how many frames, in how many bytes these were written, and why no more were.
@@ -55,6 +47,7 @@ pub fn write_lent<K: Sink>(
     lent: &[u8],
     known: u64,
     at_end: bool,
+    gathering: &mut Gathering,
     sink: &mut K,
 ) -> Result<Drained, Broken>
     requires small { length lent.now ≤ 2 ^ 62 }
@@ -64,22 +57,37 @@ pub fn write_lent<K: Sink>(
     ensures failed { IfErr result (λ broken. Breaks job.now lent.now at_end (K.state sink.old) broken (K.state sink.new)) }
 {
     let spans = One(lent);
-    write_frames(job, &Sequence::whole(&spans), known, at_end, sink)
+    let lent = Sequence::whole(&spans);
+    gathering.begin();
+    match write_frames(job, &lent, known, at_end, gathering, sink) {
+        Ok(drained) => Ok(drained),
+        Err(Failed) => {
+            let written = gathering.passed();
+            Err(Broken {
+                frames: whole_frames(job, &lent, at_end, written),
+                written: written.min(u128::from(u64::MAX)) as u64,
+            })
+        }
+    }
 }
 
 /// Writes the frames of a lend to the sink, as the job's output spells them. `at_end` says that nothing comes behind it. Of
 /// lines, the first `known` bytes were searched before and have no line feed.
+#[inline(never)]
 pub fn write_frames<C: Spans, K: Sink>(
     job: &Job,
     lent: &Sequence<'_, C>,
     known: u64,
     at_end: bool,
+    gathering: &mut Gathering,
     sink: &mut K,
-) -> Result<Drained, Broken>
+) -> Result<Drained, Failed>
+    requires small { length (bytes lent.now) ≤ 2 ^ 62 }
     requires within { known ≤ length (bytes lent.now) }
     requires searched { job.now.input ≡ Framing.Line → IsNone (position is_line_feed (take known (bytes lent.now))) }
+    requires begun { gathering.old ≡ begun }
     ensures drained { IfOk result (λ drained. Drains job.now (bytes lent.now) at_end (K.state sink.old) drained (K.state sink.new)) }
-    ensures failed { IfErr result (λ broken. Breaks job.now (bytes lent.now) at_end (K.state sink.old) broken (K.state sink.new)) }
+    ensures failed { OnErr result (Interrupts job.now (bytes lent.now) at_end (K.state sink.old) gathering.new.passed (K.state sink.new)) }
 {
     let mut rest = *lent;
     let mut known = known;
@@ -87,15 +95,17 @@ pub fn write_frames<C: Spans, K: Sink>(
     let mut frames = 0;
     let mut written: u64 = 0;
     loop {
-        match pass_first(job, &rest, known, at_end, sink) {
-            Ok(Step::Passed { len, written: more }) => {
+        match first_frame(job, &rest, known, at_end) {
+            Ok((payload, len)) => {
+                let more = put_frame(job.output, &payload, gathering, sink)?;
                 rest = rest.without_front(len);
                 known = 0;
                 passed += len;
                 frames += 1;
                 written = written.saturating_add(more);
             }
-            Ok(Step::Stopped(stop)) => {
+            Err(stop) => {
+                gathering.write_out(sink)?;
                 return Ok(Drained {
                     passed,
                     frames,
@@ -103,46 +113,36 @@ pub fn write_frames<C: Spans, K: Sink>(
                     stop,
                 });
             }
-            Err(broken) => {
-                return Err(Broken {
-                    frames,
-                    written: written.saturating_add(broken.written),
-                });
-            }
         }
     }
 }
 
-/// Writes the first frame of a sequence, where there is one that can be spelt.
-fn pass_first<C: Spans, K: Sink>(
+/// The payload of the first frame, where there is one that can be spelt, with the frame's length. Else why there is none.
+#[inline(always)]
+fn first_frame<'a, C: Spans>(
     job: &Job,
-    rest: &Sequence<'_, C>,
+    rest: &Sequence<'a, C>,
     known: u64,
     at_end: bool,
-    sink: &mut K,
-) -> Result<Step, BrokenOff>
+) -> Result<(Sequence<'a, C>, u64), Stop>
     requires within { known ≤ length (bytes rest.now) }
     requires searched { job.now.input ≡ Framing.Line → IsNone (position is_line_feed (take known (bytes rest.now))) }
-    ensures passed { IfOk result (λ step. PassesFirst job.now (bytes rest.now) at_end (K.state sink.old) step (K.state sink.new)) }
-    ensures failed { IfErr result (λ broken. BreaksFirst job.now (bytes rest.now) at_end (K.state sink.old) broken.written (K.state sink.new)) }
+    ensures first { IfOk result (λ first. IsFirst job.now (bytes rest.now) at_end (bytes first.0) first.1) }
+    ensures stopped { IfErr result (λ stop. StopsAt job.now (bytes rest.now) at_end stop) }
 {
-    let stop = match next_frame(job.input, job.max, rest, known, at_end) {
+    match next_frame(job.input, job.max, rest, known, at_end) {
         Cut::Frame { from, to, end } => {
             let payload = part(rest, from, to);
             match can_spell(job.output, &payload) {
-                Ok(()) => {
-                    let written = write_frame(job.output, &payload, sink)?;
-                    return Ok(Step::Passed { len: end, written });
-                }
-                Err(kind) => Stop::Bad(kind),
+                Ok(()) => Ok((payload, end)),
+                Err(kind) => Err(Stop::Bad(kind)),
             }
         }
-        Cut::More => Stop::More,
-        Cut::End => Stop::End,
-        Cut::Rest => Stop::Rest,
-        Cut::Bad(kind) => Stop::Bad(kind),
-    };
-    Ok(Step::Stopped(stop))
+        Cut::More => Err(Stop::More),
+        Cut::End => Err(Stop::End),
+        Cut::Rest => Err(Stop::Rest),
+        Cut::Bad(kind) => Err(Stop::Bad(kind)),
+    }
 }
 
 /// The bytes of a sequence from one offset up to another.
@@ -154,18 +154,50 @@ fn part<'a, C: Spans>(seq: &Sequence<'a, C>, from: u64, to: u64) -> Sequence<'a,
     seq.slice(seq.position(from), seq.position(to))
 }
 
-/// Writes the frame of a payload that has one, and answers how many bytes it has.
-fn write_frame<C: Spans, K: Sink>(
+/// Puts the frame of a payload that has one behind what is gathered, and answers how many bytes it has.
+fn put_frame<C: Spans, K: Sink>(
     framing: Framing,
     payload: &Sequence<'_, C>,
+    gathering: &mut Gathering,
     sink: &mut K,
-) -> Result<u64, BrokenOff>
+) -> Result<u64, Failed>
     requires { IsNone (obstacle framing (bytes payload.now)) }
-    ensures written { IfOk result (λ count. (count ≡ length (spelling framing (bytes payload.now)))
-        × Takes (K.state sink.old) (spelling framing (bytes payload.now)) (K.state sink.new)) }
-    ensures failed { IfErr result (λ broken. BreaksWithin (K.state sink.old) (spelling framing (bytes payload.now)) broken.written (K.state sink.new)) }
+    ensures len { IfOk result (λ len. len ≡ length (spelling framing (bytes payload.now))) }
+    ensures put { IfOk result (λ _. Puts gathering.old (K.state sink.old) (spelling framing (bytes payload.now)) gathering.new (K.state sink.new)) }
+    ensures failed { OnErr result (PutsFront gathering.old (K.state sink.old) (spelling framing (bytes payload.now)) gathering.new (K.state sink.new)) }
 {
-    let written = write_behind(sink, spell_head(framing, payload.len()).bytes(), 0)?;
-    let written = write_parts(sink, payload, written)?;
-    write_behind(sink, spell_tail(framing).bytes(), written)
+    gathering.put(sink, spell_head(framing, payload.len()).bytes())?;
+    gathering.put_spans(sink, payload)?;
+    gathering.put(sink, spell_tail(framing).bytes())?;
+    Ok(frame_len(framing, payload))
+}
+
+/// How many bytes the frame of a payload has.
+fn frame_len<C: Spans>(framing: Framing, payload: &Sequence<'_, C>) -> u64
+    requires { IsNone (obstacle framing (bytes payload.now)) }
+    ensures { result ≡ length (spelling framing (bytes payload.now)) }
+{
+    let head = spell_head(framing, payload.len());
+    let tail = spell_tail(framing);
+    head.bytes().len() as u64 + payload.len() + tail.bytes().len() as u64
+}
+
+/// How many frames of a lend are whole in the first `written` bytes of what is to be written of it.
+fn whole_frames<C: Spans>(job: &Job, lent: &Sequence<'_, C>, at_end: bool, written: u128) -> u64
+    requires { written < length (translation job.now (bytes lent.now) at_end).text }
+    ensures { CountsWhole job.now (bytes lent.now) at_end written result }
+{
+    let mut rest = *lent;
+    let mut left = written;
+    let mut frames = 0;
+    while let Ok((payload, len)) = first_frame(job, &rest, 0, at_end) {
+        let more = u128::from(frame_len(job.output, &payload));
+        if more > left {
+            break;
+        }
+        left -= more;
+        rest = rest.without_front(len);
+        frames += 1;
+    }
+    frames
 }

@@ -7,11 +7,11 @@ mod ending;
 mod ends;
 mod filler;
 mod frames;
+mod gathering;
 mod laws;
 mod lines;
 mod plain;
 mod pump;
-mod text;
 
 pub use drainer::{DrainEnd, DrainStep, Drainer};
 pub use ending::{outcome_of, status_of};

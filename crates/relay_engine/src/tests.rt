@@ -96,10 +96,10 @@ fn a_relay_takes_no_more_than_its_limit(rt: HostRuntime) -> Result<(), Fail> {
 fn a_sink_is_flushed_once_before_an_end(rt: HostRuntime) -> Result<(), Fail> {
     let alloc = rt.alloc();
     let cases: [(&[u8], u64, u64, Outcome, u64); 10] = [
-        (TWO_FRAMES, 1_000, 5, Outcome::WriteFault, 2),
-        (TWO_FRAMES, 1_000, 6, Outcome::Clean, 2),
-        (TWO_FRAMES, 10, 3, Outcome::WriteFault, 1),
-        (TWO_FRAMES, 10, 4, Outcome::TooLong, 1),
+        (TWO_FRAMES, 1_000, 2, Outcome::WriteFault, 2),
+        (TWO_FRAMES, 1_000, 3, Outcome::Clean, 2),
+        (TWO_FRAMES, 10, 2, Outcome::WriteFault, 1),
+        (TWO_FRAMES, 10, 3, Outcome::TooLong, 1),
         (&[0, 0, 0, 0], 1_000, 2, Outcome::WriteFault, 1),
         (&[0, 0, 0, 0], 1_000, 3, Outcome::Clean, 1),
         (&[0, 0], 1_000, 1, Outcome::WriteFault, 0),
@@ -150,16 +150,66 @@ fn nothing_is_read_where_there_is_no_room(rt: HostRuntime) -> Result<(), Fail> {
     Ok(())
 }
 
+/// The sink takes a byte by each call.
 #[test]
 fn a_frame_that_was_broken_off_is_not_counted(rt: HostRuntime) -> Result<(), Fail> {
     let alloc = rt.alloc();
-    let cases: [(u64, u64, u64); 4] = [(1, 0, 0), (2, 0, 2), (3, 1, 3), (4, 1, 4)];
+    let cases: [(u64, u64, u64); 5] = [(1, 0, 0), (2, 0, 1), (3, 0, 2), (4, 1, 3), (5, 1, 4)];
     for (failing_call, frames, written) in cases {
         let mut source = source(alloc, TWO_FRAMES, &[])?;
-        let mut sink = sink(alloc, &[failing_call])?;
+        let caps = [1, 1, 1, 1, 1].to_vec(alloc)?;
+        let mut sink = MemSink::make(alloc, 64, caps, [failing_call].to_vec(alloc)?)?;
         let job = job(Framing::Len4, Framing::Line, 1_000);
         let told = report(Outcome::WriteFault, frames, 11, written);
         assert_eq!(rt; pump_local(alloc, &mut source, &mut sink, &job)?, told);
+    }
+    Ok(())
+}
+
+/// What a relay of lines to `len4` reports whose input is read at once and whose sink fails at that call.
+fn report_of_lines(alloc: Global, content: &[u8], failing_call: u64) -> Result<Report, AllocError> {
+    let mut source = source(alloc, content, &[])?;
+    let fails = [failing_call].to_vec(alloc)?;
+    let mut sink = MemSink::make(alloc, 65_536, Vec::new(alloc), fails)?;
+    let job = Job {
+        seg: 65_536,
+        ..job(Framing::Line, Framing::Len4, 1 << 20)
+    };
+    pump_local(alloc, &mut source, &mut sink, &job)
+}
+
+/// The last call is the flush.
+#[test]
+fn small_frames_cost_few_calls(rt: HostRuntime) -> Result<(), Fail> {
+    let empty_lines = [b'\n'; 12_000];
+    let cases: [(u64, Report); 5] = [
+        (1, report(Outcome::WriteFault, 0, 12_000, 0)),
+        (2, report(Outcome::WriteFault, 2_048, 12_000, 8_192)),
+        (6, report(Outcome::WriteFault, 10_240, 12_000, 40_960)),
+        (7, report(Outcome::WriteFault, 12_000, 12_000, 48_000)),
+        (8, report(Outcome::Clean, 12_000, 12_000, 48_000)),
+    ];
+    for (failing_call, told) in cases {
+        assert_eq!(rt; report_of_lines(rt.alloc(), &empty_lines, failing_call)?, told);
+    }
+    Ok(())
+}
+
+/// Its head is written before it, with all that was gathered.
+#[test]
+fn a_large_payload_costs_a_call(rt: HostRuntime) -> Result<(), Fail> {
+    let alloc = rt.alloc();
+    let mut content = [b'\n'; 5].to_vec(alloc)?;
+    content.extend_from_slice(&[b'x'; 4_096])?;
+    content.push(b'\n')?;
+    let cases: [(u64, Report); 4] = [
+        (1, report(Outcome::WriteFault, 0, 4_102, 0)),
+        (2, report(Outcome::WriteFault, 5, 4_102, 24)),
+        (3, report(Outcome::WriteFault, 6, 4_102, 4_120)),
+        (4, report(Outcome::Clean, 6, 4_102, 4_120)),
+    ];
+    for (failing_call, told) in cases {
+        assert_eq!(rt; report_of_lines(alloc, &content, failing_call)?, told);
     }
     Ok(())
 }

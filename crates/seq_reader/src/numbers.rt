@@ -9,6 +9,7 @@ use span_seq::Spans;
 
 impl<C: Spans> SeqReader<'_, C> {
     /// Reads a number of 2 bytes, the most significant first, as `TryReadBigEndian`.
+    #[inline]
     pub fn read_u16_be(&mut self) -> Option<u16>
         ensures value { result ≡ option_map (from_be_bytes w16) (front 2 (rest_of self.old)) }
         ensures place { self.new ≡ moved self.old (read_of result 2) }
@@ -25,6 +26,7 @@ impl<C: Spans> SeqReader<'_, C> {
     }
 
     /// Reads a number of 4 bytes, the most significant first, as `TryReadBigEndian`.
+    #[inline]
     pub fn read_u32_be(&mut self) -> Option<u32>
         ensures value { result ≡ option_map (from_be_bytes w32) (front 4 (rest_of self.old)) }
         ensures place { self.new ≡ moved self.old (read_of result 4) }

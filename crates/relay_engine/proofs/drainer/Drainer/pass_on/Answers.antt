@@ -17,7 +17,7 @@ returns-after-end_of g c =
               c.advance.new.self,
               g.K.Sink.state c.write_lent.new.sink,
               w.in-Some.end,
-              (record { drains = drains; drainer = rw (← c.self.view_is) at c.add.ensures; stands = c.advance.ensures.at }),
+              (record { drains = drains; drainer = c.add.ensures; stands = c.advance.ensures.at }),
               rw (← c.self-in-Ok.view_is) (sym c.end_of.ensures ∙ w.in-Some.is),
               w.finish.ensures,
             );
@@ -31,7 +31,7 @@ returns-after-end_of g c =
             lends = c.lent-lent.ensures.bytes;
             how = (
               c.in-Ok.drained,
-              (record { drains = drains; drainer = rw (← c.self.view_is) at c.add.ensures; stands = c.advance.ensures.at }),
+              (record { drains = drains; drainer = c.add.ensures; stands = c.advance.ensures.at }),
               rw (← c.self-in-Ok.view_is) (sym c.end_of.ensures ∙ w.in-None.is),
               refl,
             );
@@ -46,7 +46,7 @@ returns-in-Err g c =
     rw (← c.self.view_is) (record {
       lent = c.lent-lent.result.now;
       lends = c.lent-lent.ensures.bytes;
-      how = inr (c.in-Err.broken, (record { breaks = rw c.is_success.ensures at c.in-Err.ensures.failed; drainer = rw (← c.self.view_is) at c.add-in-Err.ensures; stands = c.end_reader.ensures.at }), refl);
+      how = inr (c.in-Err.broken, (record { breaks = rw c.is_success.ensures at c.in-Err.ensures.failed; drainer = c.add-in-Err.ensures; stands = c.end_reader.ensures.at }), refl);
       shape = ap (λ r. r.shape) c.end_reader.ensures.reader;
       attended = λ frames is. absurd cc;
       writing = ap (λ r. r.writing) c.end_reader.ensures.reader;

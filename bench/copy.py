@@ -1,0 +1,98 @@
+#!/usr/bin/env python3
+"""How long `relay copy` takes, beside two yardsticks in the same run: `buffered.rs`, with the buffered reader and writer of
+Rust's library, and `tuned.c`, by hand. From a file to the null device, and through pipes.
+
+    python3 bench/copy.py [MEGABYTES [KEY=VALUE ..]]
+
+wants `crates/relay/out/relay`, `rustc` and `cc`. Each line is a translation and a payload's length, and the least time of
+`relay` over the least time of each yardstick. The keys are given to `relay`.
+"""
+
+import hashlib
+import os
+import subprocess
+import sys
+import tempfile
+import time
+
+HERE = os.path.dirname(os.path.abspath(__file__))
+RELAY = os.path.join(HERE, "..", "crates", "relay", "out", "relay")
+ROUNDS = 5
+TRANSLATIONS = [("line", "len4"), ("len4", "line"), ("len4", "len4"), ("line", "line")]
+PAYLOADS = [12, 80, 1024, 60000]
+
+
+def build(folder):
+    """The yardsticks, as programs."""
+    buffered = os.path.join(folder, "buffered")
+    tuned = os.path.join(folder, "tuned")
+    subprocess.run(["rustc", "-O", "-o", buffered, os.path.join(HERE, "buffered.rs")], check=True)
+    subprocess.run(["cc", "-O2", "-o", tuned, os.path.join(HERE, "tuned.c")], check=True)
+    return buffered, tuned
+
+
+def write_input(path, framing, payload, size):
+    """A file of so many bytes at least, of frames whose payloads have that length."""
+    body = (b"abcdefghijklmnopqrstuvwxyz0123456789" * (payload // 36 + 1))[:payload]
+    frame = body + b"\n" if framing == "line" else payload.to_bytes(4, "big") + body
+    chunk = frame * max(1, 1_000_000 // len(frame))
+    with open(path, "wb") as file:
+        for _ in range(-(-size // len(chunk))):
+            file.write(chunk)
+
+
+def file_to_null(words, path):
+    with open(path, "rb") as source, open(os.devnull, "wb") as sink:
+        start = time.perf_counter()
+        subprocess.run(words, stdin=source, stdout=sink, check=True)
+        return time.perf_counter() - start
+
+
+def through_pipes(words, path):
+    start = time.perf_counter()
+    first = subprocess.Popen(["cat", path], stdout=subprocess.PIPE)
+    relay = subprocess.Popen(words, stdin=first.stdout, stdout=subprocess.PIPE)
+    last = subprocess.Popen(["cat"], stdin=relay.stdout, stdout=subprocess.DEVNULL)
+    first.stdout.close()
+    relay.stdout.close()
+    codes = [process.wait() for process in (first, relay, last)]
+    assert codes == [0, 0, 0], codes
+    return time.perf_counter() - start
+
+
+def digest(words, path):
+    with open(path, "rb") as source:
+        relay = subprocess.Popen(words, stdin=source, stdout=subprocess.PIPE)
+        found = hashlib.file_digest(relay.stdout, "sha256").hexdigest()
+        assert relay.wait() == 0
+        return found
+
+
+def main():
+    size = int(sys.argv[1] if len(sys.argv) > 1 else "100") * 1_000_000
+    keys = sys.argv[2:]
+    with tempfile.TemporaryDirectory() as folder:
+        buffered, tuned = build(folder)
+        path = os.path.join(folder, "input")
+        print(f"{'translation':16}{'payload':>8}  {'file: buffered':>15}{'tuned':>7}  {'pipes: buffered':>16}{'tuned':>7}")
+        for source, sink in TRANSLATIONS:
+            for payload in PAYLOADS:
+                write_input(path, source, payload, size)
+                programs = [
+                    [RELAY, "copy", source, sink, *keys],
+                    [buffered, source, sink],
+                    [tuned, source, sink],
+                ]
+                assert len({digest(words, path) for words in programs}) == 1
+                ratios = []
+                for run in (file_to_null, through_pipes):
+                    least = [float("inf")] * 3
+                    for _ in range(ROUNDS):
+                        for i, words in enumerate(programs):
+                            least[i] = min(least[i], run(words, path))
+                    ratios += [least[0] / least[1], least[0] / least[2]]
+                print(f"{source + ' to ' + sink:16}{payload:8}  {ratios[0]:15.2f}{ratios[1]:7.2f}  {ratios[2]:16.2f}{ratios[3]:7.2f}", flush=True)
+
+
+if __name__ == "__main__":
+    main()
