@@ -1,9 +1,9 @@
 -- What comes to a sink through a gathering.
-use Rattle.std.proofs.Common.{◌≡◌, ◌<◌, ◌+◌, ◌-◌, ◌^◌, ℕ, List, [], ◌++◌, length, take, drop, Result, Ok, Err, refl, sym, ap, ◌∙◌, subst, arith, append_assoc, append-nil}
+use Rattle.std.proofs.Common.{◌≡◌, ◌+◌, ℕ, List, [], ◌++◌, length, take, drop, Result, Ok, Err, refl, sym, ap, ◌∙◌, subst, arith, append_assoc, append-nil}
 use Rattle.std.specs.Prelude.{OnErr, OnOk}
 use Rattle.std.proofs.lemmas.List.{length-append, take-append-drop}
 use Rattle.std.proofs.KnownBytes.{Appends-trans}
-use Rattle.edge_core.specs.Device.{SinkState, Takes}
+use Rattle.edge_core.specs.Device.{SinkState}
 use Rattle.edge_core.proofs.DeviceLemmas.{Takes-trans}
 use Rattle.relay_engine.specs.Gathering.{Gathered, Puts, PutsFront, counted}
 use Rattle.relay_engine.proofs.DeviceLemmas.{takes_nothing}

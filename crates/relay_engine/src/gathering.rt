@@ -150,11 +150,7 @@ impl Gathering {
 }
 
 // Writes a piece behind so many bytes, and answers how many there are then.
-fn write_counted<K: Sink>(
-    sink: &mut K,
-    piece: &[u8],
-    before: u128,
-) -> (Result<(), Failed>, u128)
+fn write_counted<K: Sink>(sink: &mut K, piece: &[u8], before: u128) -> (Result<(), Failed>, u128)
     ensures whole { OnOk result.0 (Takes (K.state sink.old) piece.now (K.state sink.new) × (result.1 ≡ counted (before + length piece.now))) }
     ensures front { OnErr result.0 ((count : ℕ) × (count < length piece.now) × TakesFront (K.state sink.old) piece.now count (K.state sink.new) × (result.1 ≡ counted (before + count))) }
 {

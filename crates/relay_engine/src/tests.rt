@@ -190,7 +190,10 @@ fn small_frames_cost_few_calls(rt: HostRuntime) -> Result<(), Fail> {
         (8, report(Outcome::Clean, 12_000, 12_000, 48_000)),
     ];
     for (failing_call, told) in cases {
-        assert_eq!(rt; report_of_lines(rt.alloc(), &empty_lines, failing_call)?, told);
+        assert_eq!(rt;
+            report_of_lines(rt.alloc(), &empty_lines, failing_call)?,
+            told
+        );
     }
     Ok(())
 }

@@ -1,5 +1,5 @@
 -- The first frame can be spelt, or it is said why not.
-use Rattle.std.proofs.Common.{List, ℕ, refl, sym, ap, ◌∙◌}
+use Rattle.std.proofs.Common.{List, ℕ, sym, ap, ◌∙◌}
 use Rattle.frame_model.specs.Spelling.{obstacle}
 use Rattle.frame_model.specs.declared.framing.BadKind.TheVariants.{Unspellable}
 use Rattle.span_seq.specs.Sequence.{bytes}

@@ -1,5 +1,5 @@
 -- The frames so far are whole in what was written.
-use Rattle.std.proofs.Common.{◌≡◌, ◌+◌, ◌<◌, ◌-◌, ℕ, List, length, drop}
+use Rattle.std.proofs.Common.{◌≡◌, ◌+◌, ◌<◌, ℕ, List, length, drop}
 use Rattle.frame_model.specs.Translation.{translation}
 use Rattle.span_seq.specs.Sequence.{bytes}
 use Rattle.relay_engine.specs.Frames.{Passes}
