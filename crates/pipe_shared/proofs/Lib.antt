@@ -4,3 +4,4 @@ pub mod SeenLemmas
 pub mod TurnLemmas
 pub mod HoldLemmas
 pub mod EndLemmas
+pub mod WaitingLemmas

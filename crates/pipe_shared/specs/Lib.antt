@@ -9,3 +9,5 @@ pub mod Holding
 pub mod Lending
 pub mod Granting
 pub mod Made
+pub mod Waiting
+pub mod Attempts

@@ -7,6 +7,7 @@ mod ends;
 mod entry;
 mod faults;
 mod options;
+mod parking;
 mod pipe;
 mod reading;
 mod room;
@@ -14,6 +15,7 @@ mod state;
 #[cfg(test)]
 mod tests;
 mod turns;
+mod waiting;
 mod writing;
 
 pub use ends::{
