@@ -5,3 +5,4 @@ pub mod TurnLemmas
 pub mod HoldLemmas
 pub mod EndLemmas
 pub mod WaitingLemmas
+pub mod LocalLemmas

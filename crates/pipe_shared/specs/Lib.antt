@@ -11,3 +11,5 @@ pub mod Granting
 pub mod Made
 pub mod Waiting
 pub mod Attempts
+pub mod Local
+pub mod LocalLending

@@ -42,6 +42,22 @@ pub enum RoomFault {
     },
 }
 
+/// Why a pipe for one thread granted no room.
+#[derive(Clone, Copy, Debug, PartialEq, Eq)]
+pub enum LocalRoomFault {
+    /// As `RoomFault::TooLarge`.
+    TooLarge {
+        hint: usize,
+        segment: usize,
+    },
+    /// As `RoomFault::Full`.
+    Full {
+        held: usize,
+        draft: usize,
+        capacity: usize,
+    },
+}
+
 impl FlushFault {
     ghost use Rattle.std.specs.Prelude.{◌≡◌};
     ghost use Rattle.pipe_shared.specs.Faults.{is_tried_again};

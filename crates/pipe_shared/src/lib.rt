@@ -6,6 +6,7 @@ mod canceling;
 mod ends;
 mod entry;
 mod faults;
+mod local;
 mod options;
 mod parking;
 mod pipe;
@@ -21,6 +22,7 @@ mod writing;
 pub use ends::{
     Canceller, ReaderDone, ReaderEnd, ReaderRefused, WriterDone, WriterEnd, WriterRefused,
 };
-pub use faults::{FlushFault, RoomFault, TryFault};
+pub use faults::{FlushFault, LocalRoomFault, RoomFault, TryFault};
+pub use local::LocalPipe;
 pub use options::{Field, MakeError, Options};
 pub use pipe::{Closed, Made, Pipe};
