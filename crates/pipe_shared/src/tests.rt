@@ -13,7 +13,7 @@ use pipe_core::{FlushReply, ReadReply, TooMuch, Wake};
 use std::process::Abort;
 use std::sync::Wait;
 use std::test::Fail;
-use std::thread::{Threads, join};
+use std::thread::{Threads, join, yield_now};
 
 const NOBODY: Wake = Wake {
     reader: false,
@@ -771,5 +771,109 @@ fn bytes_pass_in_order_between_threads_that_wait(rt: HostRuntime) -> Result<(), 
     assert_eq!(rt; passed(&rt, &pipe, w, r, 250), 5_000);
     let (pipe, w, r, _k) = with_two_segments(&rt).ok_or("memory")?;
     assert_eq!(rt; passed(&rt, &pipe, w, r, 250), 5_000);
+    Ok(())
+}
+
+// Gives way for so long that a thread beside this one, which waits for it, sleeps.
+fn linger() {
+    for _ in 0..2_000 {
+        yield_now();
+    }
+}
+
+// Reads once, and waits for that.
+fn read_first<R: Wait>(rt: &R, pipe: &Pipe, mut r: ReaderEnd) -> Option<ReadReply>
+    requires { IsOf pipe.now r.seat }
+{
+    read_waiting(rt, pipe, &mut r)
+}
+
+// Cancels a read, late.
+fn cancel_later<R: Wait>(rt: &R, pipe: &Pipe, mut k: Canceller) -> Canceller
+    requires { IsOf pipe.now k }
+{
+    linger();
+    for _ in rt.forever() {
+        if pipe.try_cancel_read(&mut k).is_ok() {
+            break;
+        }
+    }
+    k
+}
+
+// Fills a pipe of two segments, and waits for room.
+fn room_when_full<R: Wait>(rt: &R, pipe: &Pipe, mut w: WriterEnd) -> Option<usize>
+    requires { IsOf pipe.now w.seat }
+{
+    for _ in 0..2 {
+        pipe.room(rt, &mut w, 64).ok()?;
+        if !draft(&mut w, &[7; 64]) {
+            return None;
+        }
+    }
+    pipe.flush(rt, &mut w).ok()?;
+    pipe.room(rt, &mut w, 1).ok()
+}
+
+// Completes the reader, late.
+fn leave_later<R: Wait>(rt: &R, pipe: &Pipe, r: ReaderEnd) -> ReaderDone
+    requires { IsOf pipe.now r.seat }
+{
+    linger();
+    pipe.complete_reader(rt, r, 9)
+}
+
+// What a reader that waits is told when its read is canceled.
+fn canceled<R: Threads + Wait + Sync>(
+    rt: &R,
+    pipe: &Pipe,
+    r: ReaderEnd,
+    k: Canceller,
+) -> Option<ReadReply>
+    requires reader { IsOf pipe.now r.seat }
+    requires canceller { IsOf pipe.now k }
+{
+    let (reply, _canceller) = join(
+        rt,
+        || -> Option<ReadReply>
+            requires { IsOf pipe.now r.seat }
+        { read_first(rt, pipe, r) },
+        || -> Canceller
+            requires { IsOf pipe.now k }
+        { cancel_later(rt, pipe, k) },
+    );
+    reply
+}
+
+// How much room a writer that waits is granted when the reader completes.
+fn left<R: Threads + Wait + Sync>(rt: &R, pipe: &Pipe, w: WriterEnd, r: ReaderEnd) -> Option<usize>
+    requires writer { IsOf pipe.now w.seat }
+    requires reader { IsOf pipe.now r.seat }
+{
+    let (granted, _reader) = join(
+        rt,
+        || -> Option<usize>
+            requires { IsOf pipe.now w.seat }
+        { room_when_full(rt, pipe, w) },
+        || -> ReaderDone
+            requires { IsOf pipe.now r.seat }
+        { leave_later(rt, pipe, r) },
+    );
+    granted
+}
+
+#[test]
+fn an_end_that_waits_is_woken_by_a_cancellation_and_a_completion(
+    rt: HostRuntime,
+) -> Result<(), Fail> {
+    let (pipe, _w, r, k) = small(&rt).ok_or("memory")?;
+    let empty = ReadReply::Ready {
+        canceled: true,
+        ended: None,
+        len: 0,
+    };
+    assert!(rt; canceled(&rt, &pipe, r, k) == Some(empty));
+    let (pipe, w, r, _k) = with_two_segments(&rt).ok_or("memory")?;
+    assert!(rt; left(&rt, &pipe, w, r) == Some(64));
     Ok(())
 }
