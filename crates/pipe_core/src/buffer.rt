@@ -1,6 +1,6 @@
 //! The bytes of a pipe, in one run.
 
-ghost use Rattle.std.specs.Prelude.{◌≡◌, ◌≤◌, [], ◌++◌, length, drop, replicate, IfOk};
+ghost use Rattle.std.specs.Prelude.{◌≡◌, ◌≤◌, [], ◌++◌, length, take, drop, replicate, IfOk};
 ghost use Rattle.std.specs.Borrow.{sem};
 ghost use Rattle.pipe_core.specs.Bytes.{capacity_of, with_draft, with_committed, settled};
 ghost use Rattle.pipe_core.specs.Lending.{LendsFree};
@@ -62,6 +62,17 @@ impl Buffer {
     {
         let from = self.end;
         let to = self.start + self.capacity;
+        self.room.slice_mut(from..to)
+    }
+
+    // The first bytes of the free part.
+    pub fn free_front_mut(&mut self, n: usize) -> &mut [u8]
+        requires { n ≤ length self.old.free }
+        ensures* lends { sem 𝓛 (LendsFree self.entry result) }
+        ensures value { result.now ≡ take n self.old.free }
+    {
+        let from = self.end;
+        let to = self.end + n;
         self.room.slice_mut(from..to)
     }
 

@@ -1,6 +1,6 @@
 //! A pipe over one buffer, for one thread.
 
-ghost use Rattle.std.specs.Prelude.{◌≡◌, ◌+◌, ◌^◌, ◌<◌, ◌≤◌, ◌↔◌, ℕ, List, [], length, IsNone, IsSome, Some, IsErr, IsOk, IfErr, IfOk, OnErr, OnOk};
+ghost use Rattle.std.specs.Prelude.{◌≡◌, ◌+◌, ◌^◌, ◌<◌, ◌≤◌, ◌↔◌, ℕ, List, [], length, take, IsNone, IsSome, Some, IsErr, IsOk, IfErr, IfOk, OnErr, OnOk};
 ghost use Rattle.std.specs.Borrow.{sem};
 ghost use Rattle.pipe_core.specs.History.{Call, Commit, Read, Advance, EndReader, CancelRead, CancelFlush};
 ghost use Rattle.pipe_core.specs.Lends.{lend};
@@ -108,6 +108,15 @@ impl PlainPipe {
         ensures value { result.now ≡ self.old.bytes.free }
     {
         self.buffer.free_mut()
+    }
+
+    /// The first `n` bytes of the free part, for a writer that was granted no more.
+    pub fn spare_front_mut(&mut self, n: usize) -> &mut [u8]
+        requires { n ≤ length self.old.bytes.free }
+        ensures* lends { sem 𝓛 (LendsSpare self.entry result) }
+        ensures value { result.now ≡ take n self.old.bytes.free }
+    {
+        self.buffer.free_front_mut(n)
     }
 
     /// Takes the first `n` bytes of the free part to the end of the draft, as `PipeWriter.Advance` does.

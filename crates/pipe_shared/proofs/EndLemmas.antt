@@ -37,7 +37,7 @@ pub end_makes : (k : ℕ) (options : Options) (call : Call) (answer : Answer) (o
 end_makes k options call answer old new end m = end_puts k (call ∷ []) m.found new (end_wins k old m.found end m.wins) m.after
 
 -- the calls that a seat has seen once it has made one
-calls_made : (call : Call) (found new : Seat) → new ≡ after_put (call ∷ []) found → calls_of new.seen ≡ call ∷ calls_of found.seen
+pub calls_made : (call : Call) (found new : Seat) → new ≡ after_put (call ∷ []) found → calls_of new.seen ≡ call ∷ calls_of found.seen
 calls_made call found new after = ap (λ (s : Seat). calls_of s.seen) after ∙ calls_with found.seen found.number (call ∷ [])
 
 pub writer_finds : (word : ℕ) (old new : Seat) (d : Drafted) → IsWriter old d → FindsHeld word old new → IsWriter new d
@@ -65,7 +65,7 @@ writer_refused size (flush.Worn entries) old new d w r = writer_wins old new d w
 writer_refused size (flush.TooMuch total) old new d w r = writer_wins old new d w r.wins
 
 -- a commit makes what is kept longer by its bytes at most
-kept_commit : (draft : List ℕ) (h : List Call) → IsLegal h → length (kept (Commit (runs_of draft) ∷ h)) ≤ length (kept h) + length draft
+pub kept_commit : (draft : List ℕ) (h : List Call) → IsLegal h → length (kept (Commit (runs_of draft) ∷ h)) ≤ length (kept h) + length draft
 kept_commit draft h legal =
     let b : Bytes = record { held = kept h; draft = draft; free = [] } in
     let holds = settled_holds b h (is_some (reader_end h)) refl legal refl in

@@ -4,3 +4,5 @@ pub mod SeenLemmas
 pub mod TurnLemmas
 pub mod HoldLemmas
 pub mod EndLemmas
+pub mod WaitingLemmas
+pub mod LocalLemmas

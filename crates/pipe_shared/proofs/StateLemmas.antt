@@ -30,7 +30,7 @@ calls_with h k calls = calls_of-append h (made_by k calls) ∙ ap (λ (l : List 
 abbrev IsBySeat : ℕ × Call → Type 0
 IsBySeat e = e.0 ≡ seat_of e.1
 
-one_more : (h : List (ℕ × Call)) (call : Call) → All IsBySeat h → All IsBySeat (h ++ made_by (seat_of call) (call ∷ []))
+pub one_more : (h : List (ℕ × Call)) (call : Call) → All IsBySeat h → All IsBySeat (h ++ made_by (seat_of call) (call ∷ []))
 one_more h call all = All-append IsBySeat h (made_by (seat_of call) (call ∷ [])) all (All-cons IsBySeat (seat_of call, call) [] refl (All-nil IsBySeat))
 
 -- what a pipe answers is what a state with its options answers
@@ -52,11 +52,11 @@ steps s q call answer a settled = record {
     both p p' r r' h e f = rw (e, f) refl
 
 -- the calls of a completion, in the order in which they are made
-turned : (draft : List ℕ) (code : ℕ) → reverse (reverse (closing draft code)) ≡ closing draft code
+pub turned : (draft : List ℕ) (code : ℕ) → reverse (reverse (closing draft code)) ≡ closing draft code
 turned [] code = refl
 turned (b ∷ bytes) code = refl
 
-all_last : (draft : List ℕ) (code : ℕ) → All IsBySeat (made_by 0 (reverse (closing draft code)))
+pub all_last : (draft : List ℕ) (code : ℕ) → All IsBySeat (made_by 0 (reverse (closing draft code)))
 all_last [] code = All-cons IsBySeat (0, EndWriter code) [] refl (All-nil IsBySeat)
 all_last (b ∷ bytes) code = let commit = Commit (runs_of (b ∷ bytes)) in
     All-cons IsBySeat (0, commit) ((0, EndWriter code) ∷ []) refl (All-cons IsBySeat (0, EndWriter code) [] refl (All-nil IsBySeat))

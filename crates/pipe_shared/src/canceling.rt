@@ -20,7 +20,9 @@ impl Pipe {
         ensures made { IfOk result (λ wake. Makes self.now.name k.old CancelRead (Woke wake) k.new) }
         ensures refused { IfErr result (λ fault. Refuses fault k.old k.new) }
     {
-        turns::cancel_read(&self.cell, &mut k.seat)
+        let wake = turns::cancel_read(&self.cell, &mut k.seat)?;
+        self.unpark(wake);
+        Ok(wake)
     }
 
     /// Ends the pending flush, or the next one if none is pending, as `PipeWriter.CancelPendingFlush` does. A pause goes
@@ -31,6 +33,8 @@ impl Pipe {
         ensures made { IfOk result (λ wake. Makes self.now.name k.old CancelFlush (Woke wake) k.new) }
         ensures refused { IfErr result (λ fault. Refuses fault k.old k.new) }
     {
-        turns::cancel_flush(&self.cell, &mut k.seat)
+        let wake = turns::cancel_flush(&self.cell, &mut k.seat)?;
+        self.unpark(wake);
+        Ok(wake)
     }
 }

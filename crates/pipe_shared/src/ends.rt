@@ -7,9 +7,12 @@ ghost use Rattle.pipe_shared.specs.Log.{calls_of};
 ghost use Rattle.pipe_shared.specs.Lending.{LendsSpare};
 
 use crate::faults::{FlushFault, TryFault};
+use crate::parking::Attempts;
 use crate::room::{DraftRoom, LendRoom};
 use crate::state::PipeState;
+use crossbeam_utils::sync::Parker;
 use std::marker::Model;
+use std::sync::Wait;
 use turn_cell::TurnSeat;
 
 /// The writing end of a pipe: .NET's `PipeWriter`. It may go to another thread.
@@ -20,6 +23,7 @@ use turn_cell::TurnSeat;
 pub struct WriterEnd {
     pub(crate) seat: TurnSeat<PipeState>,
     pub(crate) draft: DraftRoom,
+    pub(crate) parker: Parker,
 }
 
 impl Model for WriterEnd {
@@ -58,6 +62,11 @@ impl WriterEnd {
     {
         self.draft.draft_len() as u64
     }
+
+    // Waits for the reader.
+    pub(crate) fn wait<R: Wait>(&self, rt: &R, attempts: &mut Attempts) {
+        attempts.wait_for_other(rt, &self.parker);
+    }
 }
 
 /// The reading end of a pipe: .NET's `PipeReader`. It may go to another thread.
@@ -65,6 +74,7 @@ impl WriterEnd {
 pub struct ReaderEnd {
     pub(crate) seat: TurnSeat<PipeState>,
     pub(crate) lend: LendRoom,
+    pub(crate) parker: Parker,
 }
 
 impl Model for ReaderEnd {
@@ -92,6 +102,11 @@ impl ReaderEnd {
         ensures bytes { lend (calls_of self.now.seat.seen) ≡ Some result.now }
     {
         self.lend.lent()
+    }
+
+    // Waits for the writer.
+    pub(crate) fn wait<R: Wait>(&self, rt: &R, attempts: &mut Attempts) {
+        attempts.wait_for_other(rt, &self.parker);
     }
 }
 

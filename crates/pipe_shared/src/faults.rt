@@ -42,6 +42,38 @@ pub enum RoomFault {
     },
 }
 
+/// Why a pipe for one thread granted no room.
+#[derive(Clone, Copy, Debug, PartialEq, Eq)]
+pub enum LocalRoomFault {
+    /// As `RoomFault::TooLarge`.
+    TooLarge {
+        hint: usize,
+        segment: usize,
+    },
+    /// As `RoomFault::Full`.
+    Full {
+        held: usize,
+        draft: usize,
+        capacity: usize,
+    },
+}
+
+impl FlushFault {
+    ghost use Rattle.std.specs.Prelude.{◌≡◌};
+    ghost use Rattle.pipe_shared.specs.Faults.{is_tried_again};
+
+    // Whether a call that waits for its turn tries again.
+    pub(crate) fn is_tried_again(self) -> bool
+        ensures { result ≡ is_tried_again self }
+    {
+        match self {
+            FlushFault::Busy { .. } => true,
+            FlushFault::Worn { .. } => true,
+            FlushFault::TooMuch { .. } => false,
+        }
+    }
+}
+
 impl From<TryFault> for FlushFault {
     ghost use Rattle.std.specs.Prelude.{◌≡◌};
     ghost use Rattle.pipe_shared.specs.Faults.{flush_fault};

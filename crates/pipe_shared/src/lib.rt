@@ -6,7 +6,9 @@ mod canceling;
 mod ends;
 mod entry;
 mod faults;
+mod local;
 mod options;
+mod parking;
 mod pipe;
 mod reading;
 mod room;
@@ -14,11 +16,13 @@ mod state;
 #[cfg(test)]
 mod tests;
 mod turns;
+mod waiting;
 mod writing;
 
 pub use ends::{
     Canceller, ReaderDone, ReaderEnd, ReaderRefused, WriterDone, WriterEnd, WriterRefused,
 };
-pub use faults::{FlushFault, RoomFault, TryFault};
+pub use faults::{FlushFault, LocalRoomFault, RoomFault, TryFault};
+pub use local::LocalPipe;
 pub use options::{Field, MakeError, Options};
 pub use pipe::{Closed, Made, Pipe};

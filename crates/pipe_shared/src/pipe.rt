@@ -9,18 +9,23 @@ use crate::ends::{Canceller, ReaderDone, ReaderEnd, WriterDone, WriterEnd};
 use crate::options::{MakeError, Options};
 use crate::room::{DraftRoom, LendRoom};
 use crate::state::PipeState;
+use crossbeam_utils::sync::{Parker, Unparker};
+use pipe_core::Wake;
 use std::alloc::{AllocError, Global};
 use std::marker::Model;
 use turn_cell::TurnCell;
 
 /// A byte pipe whose two ends may be used by two threads, and cancelled by a third: .NET's `Pipe`.
 ///
-/// A try call makes one exchange at most, by which it takes the turn or is refused as Busy. No call waits, no call but
-/// `make` takes memory, and no lock stands round the pipe.
+/// A try call makes one exchange at most, by which it takes the turn or is refused as Busy. It doesn't wait. The call of
+/// the same name without `try_` is that call, made again until it has an answer; its thread may sleep in between, and is
+/// woken by the other end. No call but `make` takes memory, and no lock stands round the pipe.
 #[derive(Drop)]
 pub struct Pipe {
     pub(crate) cell: TurnCell<PipeState>,
     pub(crate) options: Options,
+    to_reader: Unparker,
+    to_writer: Unparker,
 }
 
 // Clauses see which pipe it is, and its options as the name of its states.
@@ -89,9 +94,24 @@ impl Pipe {
             Err(_refused) => return Err(AllocError),
         };
         let (first, second, third) = cell.three_new(seats);
-        let pipe = Pipe { cell, options };
-        let writer = WriterEnd { seat: first, draft };
-        let reader = ReaderEnd { seat: second, lend };
+        let writing = Parker::new(alloc)?;
+        let reading = Parker::new(alloc)?;
+        let pipe = Pipe {
+            cell,
+            options,
+            to_reader: reading.unparker().clone()?,
+            to_writer: writing.unparker().clone()?,
+        };
+        let writer = WriterEnd {
+            seat: first,
+            draft,
+            parker: writing,
+        };
+        let reader = ReaderEnd {
+            seat: second,
+            lend,
+            parker: reading,
+        };
         let canceller = Canceller { seat: third };
         Ok((pipe, writer, reader, canceller))
     }
@@ -103,11 +123,29 @@ impl Pipe {
         requires canceller { IsOf self canceller }
         ensures { ClosesPipe writer reader canceller result }
     {
-        let Pipe { cell, options: _ } = self;
+        let Pipe { cell, .. } = self;
         let state = cell.close_three(writer.seat, reader.seat, canceller.seat);
         Closed {
             committed: state.plain.committed(),
             consumed: state.plain.consumed(),
         }
+    }
+
+    // Wakes the ends that a call has made ready.
+    pub(crate) fn unpark(&self, wake: Wake) {
+        if wake.reader {
+            self.to_reader.unpark();
+        }
+        if wake.writer {
+            self.to_writer.unpark();
+        }
+    }
+
+    // The same after a call that may have made room. No wake tells of a writer that waits for room.
+    pub(crate) fn unpark_for_room(&self, wake: Wake) {
+        self.unpark(Wake {
+            writer: true,
+            ..wake
+        });
     }
 }

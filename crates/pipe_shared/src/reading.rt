@@ -1,11 +1,12 @@
 //! The reader's calls on a pipe.
 
-ghost use Rattle.std.specs.Prelude.{◌≡◌, ◌≤◌, length, None, IsNone, IsSomeAnd, IfOk, IfErr};
+ghost use Rattle.std.specs.Prelude.{◌≡◌, ◌≤◌, length, None, IsNone, IsSomeAnd, IfOk, IfErr, option_map};
 ghost use Rattle.turn_cell.specs.Seat.{IsOf, IsIdle};
 ghost use Rattle.pipe_core.specs.History.{Read, Advance, EndReader};
 ghost use Rattle.pipe_core.specs.Lends.{lend};
 ghost use Rattle.pipe_core.specs.Answers.{Gave, Woke};
 ghost use Rattle.pipe_shared.specs.Log.{calls_of};
+ghost use Rattle.pipe_shared.specs.State.{len_of};
 ghost use Rattle.pipe_shared.specs.Turns.{Refuses, Makes};
 
 use crate::ends::{ReaderDone, ReaderEnd, ReaderRefused};
@@ -24,10 +25,13 @@ impl Pipe {
         ensures pipe { IsIdle self.now r.new.seat }
         ensures made { IfOk result (λ answer. Makes self.now.name r.old.seat Read (Gave answer.0 answer.1) r.new.seat) }
         ensures lent { IfOk result (λ _. r.new.lent ≡ lend (calls_of r.new.seat.seen)) }
+        ensures lends { IfOk result (λ answer. option_map length r.new.lent ≡ len_of answer.0) }
         ensures refused { IfErr result (λ fault. Refuses fault r.old.seat r.new.seat) }
         ensures kept { IfErr result (λ _. r.new.lent ≡ r.old.lent) }
     {
-        turns::read(&self.cell, &mut r.seat, &mut r.lend)
+        let answer = turns::read(&self.cell, &mut r.seat, &mut r.lend)?;
+        self.unpark(answer.1);
+        Ok(answer)
     }
 
     /// Gives up the first `c` of the lent bytes, tells that the first `e` of them were examined, and ends the lend, as
@@ -43,6 +47,7 @@ impl Pipe {
     {
         let wake = turns::advance::<Brand>(&self.cell, &mut r.seat, c, e)?;
         r.lend.end();
+        self.unpark_for_room(wake);
         Ok(wake)
     }
 
@@ -59,11 +64,18 @@ impl Pipe {
         ensures refused { IfErr result (λ back. Refuses back.fault r.seat back.end.seat) }
         ensures kept { IfErr result (λ back. back.end.lent ≡ r.lent) }
     {
-        let ReaderEnd { mut seat, lend } = r;
+        let ReaderEnd {
+            mut seat,
+            lend,
+            parker,
+        } = r;
         match turns::end_reader::<Brand>(&self.cell, &mut seat, code) {
-            Ok(wake) => Ok((ReaderDone { seat }, wake)),
+            Ok(wake) => {
+                self.unpark_for_room(wake);
+                Ok((ReaderDone { seat }, wake))
+            }
             Err(fault) => Err(ReaderRefused {
-                end: ReaderEnd { seat, lend },
+                end: ReaderEnd { seat, lend, parker },
                 fault,
             }),
         }

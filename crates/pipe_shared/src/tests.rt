@@ -1,17 +1,19 @@
 //! Known runs of a pipe.
 
-ghost use Rattle.std.specs.Prelude.{◌≡◌, IfSome};
+ghost use Rattle.std.specs.Prelude.{◌≡◌, None, IfSome, IsNone};
 ghost use Rattle.std.specs.Thread.{IsSync};
 ghost use Rattle.turn_cell.specs.Seat.{IsOf};
 
 use crate::{
-    Canceller, Closed, Field, FlushFault, Made, MakeError, Options, Pipe, ReaderDone, ReaderEnd,
-    ReaderRefused, RoomFault, TryFault, WriterDone, WriterEnd, WriterRefused,
+    Canceller, Closed, Field, FlushFault, LocalPipe, LocalRoomFault, Made, MakeError, Options,
+    Pipe, ReaderDone, ReaderEnd, ReaderRefused, RoomFault, TryFault, WriterDone, WriterEnd,
+    WriterRefused,
 };
-use pipe_core::{FlushReply, ReadReply, Wake};
+use pipe_core::{FlushReply, ReadReply, TooMuch, Wake};
+use std::process::Abort;
 use std::sync::Wait;
 use std::test::Fail;
-use std::thread::{Threads, join};
+use std::thread::{Threads, join, yield_now};
 
 const NOBODY: Wake = Wake {
     reader: false,
@@ -51,6 +53,13 @@ fn small(rt: &HostRuntime) -> Option<Made>
         IsOf made.0 made.1.seat × IsOf made.0 made.2.seat × IsOf made.0 made.3) }
 {
     Pipe::make(rt.alloc(), SMALL).ok()
+}
+
+fn with_two_segments(rt: &HostRuntime) -> Option<Made>
+    ensures { IfSome result (λ made.
+        IsOf made.0 made.1.seat × IsOf made.0 made.2.seat × IsOf made.0 made.3) }
+{
+    Pipe::make(rt.alloc(), TWO_SEGMENTS).ok()
 }
 
 fn complete(pipe: &Pipe, w: WriterEnd) -> Option<(WriterDone, Wake)>
@@ -161,6 +170,222 @@ fn a_plain_run_of_a_pipe(rt: HostRuntime) -> Result<(), Fail> {
                 consumed: 13
             }
     );
+    Ok(())
+}
+
+// Reads by the call that waits, where no lend stands.
+fn read_waiting<R: Wait>(rt: &R, pipe: &Pipe, r: &mut ReaderEnd) -> Option<ReadReply>
+    requires { IsOf pipe.now r.old.seat }
+    ensures { IsOf pipe.now r.new.seat }
+{
+    if r.lending() {
+        return None;
+    }
+    Some(pipe.read(rt, r))
+}
+
+// Advances by the call that waits, where so many bytes are lent and are these.
+fn advance_waiting<R: Wait>(
+    rt: &R,
+    pipe: &Pipe,
+    r: &mut ReaderEnd,
+    lent: &[u8],
+    c: u64,
+    e: u64,
+) -> bool
+    requires { IsOf pipe.now r.old.seat }
+    ensures { IsOf pipe.now r.new.seat }
+{
+    if !r.lending() || r.lent() != lent || c > e || e > lent.len() as u64 {
+        return false;
+    }
+    pipe.advance(rt, r, c, e);
+    true
+}
+
+// Completes the writer by the call that waits.
+fn complete_waiting<R: Wait>(rt: &R, pipe: &Pipe, w: WriterEnd) -> Option<WriterDone>
+    requires { IsOf pipe.now w.seat }
+    ensures { IfSome result (λ done. IsOf pipe.now done) }
+{
+    pipe.complete(rt, w, 0).ok()
+}
+
+// The reply of a read that lends so many bytes.
+fn reply(ended: Option<u32>, len: u64) -> ReadReply {
+    ReadReply::Ready {
+        canceled: false,
+        ended,
+        len,
+    }
+}
+
+#[test]
+fn a_plain_run_of_a_pipe_by_calls_that_wait(rt: HostRuntime) -> Result<(), Fail> {
+    let (pipe, mut w, mut r, k) = small(&rt).ok_or("memory")?;
+    assert!(rt; pipe.room(&rt, &mut w, 0) == Ok(64));
+    assert!(rt; draft(&mut w, b"abc"));
+    assert!(rt; read(&pipe, &mut r) == waits(0));
+    assert!(rt; pipe.flush(&rt, &mut w) == Ok(FLUSHED));
+    assert!(rt; read_waiting(&rt, &pipe, &mut r) == Some(reply(None, 3)));
+    assert!(rt; draft(&mut w, b"de"));
+    assert!(rt; pipe.flush(&rt, &mut w) == Ok(FLUSHED));
+    assert!(rt; advance_waiting(&rt, &pipe, &mut r, b"abc", 1, 3));
+    assert!(rt; read_waiting(&rt, &pipe, &mut r) == Some(reply(None, 4)));
+    assert!(rt; advance_waiting(&rt, &pipe, &mut r, b"bcde", 4, 4));
+    assert!(rt; read(&pipe, &mut r) == waits(5));
+    let held = FlushReply::Pending { unexamined: 8 };
+    assert!(rt; send(&pipe, &mut w, b"12345678") == Some(Ok((held, THE_READER))));
+    let w = complete_waiting(&rt, &pipe, w).ok_or("too much")?;
+    assert!(rt; read_waiting(&rt, &pipe, &mut r) == Some(reply(Some(0), 8)));
+    assert!(rt; advance_waiting(&rt, &pipe, &mut r, b"12345678", 8, 8));
+    assert!(rt; read_waiting(&rt, &pipe, &mut r) == Some(reply(Some(0), 0)));
+    let r = pipe.complete_reader(&rt, r, 0);
+    let closed = pipe.close(w, r, k);
+    assert!(rt;
+        closed
+            == Closed {
+                committed: 13,
+                consumed: 13
+            }
+    );
+    Ok(())
+}
+
+// Writes these bytes to the front of the free part, and tells so.
+fn draft_local(pipe: &mut LocalPipe, bytes: &[u8]) -> bool
+    ensures { pipe.new.pipe.control ≡ pipe.old.pipe.control }
+{
+    let spare = pipe.spare_mut();
+    if spare.len() < bytes.len() {
+        return false;
+    }
+    spare[..bytes.len()].copy_from_slice(bytes);
+    pipe.advance_draft(bytes.len());
+    true
+}
+
+// Reads, and where these bytes are lent gives up the first `c` of them, of which `e` were examined.
+fn use_up(pipe: &mut LocalPipe, bytes: &[u8], c: u64, e: u64) -> Option<(ReadReply, Wake)>
+    requires attended { IsNone pipe.old.pipe.control.gone }
+    requires no_lend { IsNone pipe.old.pipe.control.lent }
+    ensures ended { pipe.new.pipe.control.ended ≡ pipe.old.pipe.control.ended }
+    ensures gone { pipe.new.pipe.control.gone ≡ pipe.old.pipe.control.gone }
+    ensures lent { IsNone pipe.new.pipe.control.lent }
+{
+    let (reply, _) = pipe.read();
+    let ReadReply::Ready { len, .. } = reply else {
+        return None;
+    };
+    let is_lent = pipe.lent() == bytes;
+    let examined = e.min(len);
+    let wake = pipe.advance(c.min(examined), examined);
+    is_lent.then_some((reply, wake))
+}
+
+// Writes the first three bytes of the run. Before they are committed there is nothing to read.
+fn begin_run(rt: &impl Abort, pipe: &mut LocalPipe)
+    requires going { IsNone pipe.old.pipe.control.ended }
+    requires attended { IsNone pipe.old.pipe.control.gone }
+    requires no_lend { IsNone pipe.old.pipe.control.lent }
+    ensures ended { pipe.new.pipe.control.ended ≡ pipe.old.pipe.control.ended }
+    ensures gone { pipe.new.pipe.control.gone ≡ pipe.old.pipe.control.gone }
+    ensures lent { pipe.new.pipe.control.lent ≡ None }
+{
+    assert!(rt; pipe.room(0) == Ok(64));
+    assert!(rt; draft_local(pipe, b"abc"));
+    let (ReadReply::Pending { examined: 0 }, NOBODY) = pipe.read() else {
+        panic!(rt; "something is lent");
+    };
+    assert!(rt; pipe.flush() == Ok((FLUSHED, THE_READER)));
+}
+
+// Reads, and where these bytes are lent commits two more before it gives up the first and has examined all.
+fn write_while_lent(
+    pipe: &mut LocalPipe,
+    lent: &[u8],
+) -> Option<(ReadReply, Result<(FlushReply, Wake), TooMuch>, Wake)>
+    requires going { IsNone pipe.old.pipe.control.ended }
+    requires attended { IsNone pipe.old.pipe.control.gone }
+    requires no_lend { IsNone pipe.old.pipe.control.lent }
+    ensures ended { pipe.new.pipe.control.ended ≡ pipe.old.pipe.control.ended }
+    ensures gone { pipe.new.pipe.control.gone ≡ pipe.old.pipe.control.gone }
+    ensures lent { IsNone pipe.new.pipe.control.lent }
+{
+    let (reply, _) = pipe.read();
+    let ReadReply::Ready { len, .. } = reply else {
+        return None;
+    };
+    let is_lent = pipe.lent() == lent && draft_local(pipe, b"de");
+    let flushed = pipe.flush();
+    let wake = pipe.advance(len.min(1), len);
+    is_lent.then_some((reply, flushed, wake))
+}
+
+// Commits eight bytes, which begin a pause. Before there is nothing to read.
+fn pause_run(rt: &impl Abort, pipe: &mut LocalPipe)
+    requires going { IsNone pipe.old.pipe.control.ended }
+    requires attended { IsNone pipe.old.pipe.control.gone }
+    requires no_lend { IsNone pipe.old.pipe.control.lent }
+    ensures ended { pipe.new.pipe.control.ended ≡ pipe.old.pipe.control.ended }
+    ensures gone { pipe.new.pipe.control.gone ≡ pipe.old.pipe.control.gone }
+    ensures lent { pipe.new.pipe.control.lent ≡ None }
+{
+    let (ReadReply::Pending { examined: 5 }, NOBODY) = pipe.read() else {
+        panic!(rt; "something is lent");
+    };
+    assert!(rt; draft_local(pipe, b"12345678"));
+    let held = FlushReply::Pending { unexamined: 8 };
+    assert!(rt; pipe.flush() == Ok((held, THE_READER)));
+}
+
+#[test]
+fn a_plain_run_of_a_pipe_for_one_thread(rt: HostRuntime) -> Result<(), MakeError> {
+    let mut pipe = LocalPipe::make(rt.alloc(), SMALL)?;
+    begin_run(&rt, &mut pipe);
+    let (_, flushed, woken) = write_while_lent(&mut pipe, b"abc").ok_or(MakeError::OutOfMemory)?;
+    assert!(rt; flushed == Ok((FLUSHED, NOBODY)) && woken == NOBODY);
+    assert!(rt; use_up(&mut pipe, b"bcde", 4, 4) == Some((reply(None, 4), NOBODY)));
+    pause_run(&rt, &mut pipe);
+    let Ok(NOBODY) = pipe.end_writer(0) else {
+        return Err(MakeError::OutOfMemory);
+    };
+    assert!(rt; use_up(&mut pipe, b"12345678", 8, 8) == Some((reply(Some(0), 8), NOBODY)));
+    assert!(rt; pipe.read() == (reply(Some(0), 0), NOBODY));
+    assert!(rt; pipe.end_reader(0) == NOBODY);
+    let closed = pipe.close();
+    assert!(rt;
+        closed
+            == Closed {
+                committed: 13,
+                consumed: 13
+            }
+    );
+    Ok(())
+}
+
+#[test]
+fn room_for_one_thread_is_granted_up_to_the_capacity(rt: HostRuntime) -> Result<(), MakeError> {
+    let mut pipe = LocalPipe::make(rt.alloc(), SMALL)?;
+    let too_large = LocalRoomFault::TooLarge {
+        hint: 65,
+        segment: 64,
+    };
+    assert!(rt; pipe.spare_mut().len() == 0);
+    assert!(rt; pipe.room(65) == Err(too_large));
+    assert!(rt; pipe.room(1) == Ok(64));
+    assert!(rt; draft_local(&mut pipe, &[7; 60]));
+    assert!(rt; pipe.room(4) == Ok(4));
+    assert!(rt; pipe.flush().is_ok());
+    assert!(rt; pipe.room(5) == Ok(64));
+    assert!(rt; draft_local(&mut pipe, &[9; 64]));
+    let full = LocalRoomFault::Full {
+        held: 60,
+        draft: 64,
+        capacity: 128,
+    };
+    assert!(rt; pipe.room(5) == Err(full));
+    assert!(rt; pipe.room(4) == Ok(4));
     Ok(())
 }
 
@@ -447,5 +672,208 @@ fn three_threads_use_a_pipe_and_no_byte_is_lost(rt: HostRuntime) -> Result<(), F
                 consumed: 10_000
             }
     );
+    Ok(())
+}
+
+const TWO_SEGMENTS: Options = Options {
+    segment: 64,
+    segments: 2,
+    pause: 0,
+    resume: 0,
+};
+
+// Writes so many pieces of 20 bytes, each of which has its number in every byte, and completes.
+fn write_pieces<R: Wait>(rt: &R, pipe: &Pipe, mut w: WriterEnd, pieces: u64) -> Option<WriterDone>
+    requires { IsOf pipe.now w.seat }
+    ensures { IfSome result (λ done. IsOf pipe.now done) }
+{
+    for i in 0..pieces {
+        pipe.room(rt, &mut w, 20).ok()?;
+        if !draft(&mut w, &[(i & 255) as u8; 20]) {
+            return None;
+        }
+        pipe.flush(rt, &mut w).ok()?;
+    }
+    complete_waiting(rt, pipe, w)
+}
+
+// Whether these bytes are those of the pieces, of which so many bytes went before.
+fn is_in_order(bytes: &[u8], before: u64) -> bool {
+    let mut at = before;
+    for byte in bytes {
+        if *byte != (at / 20 & 255) as u8 {
+            return false;
+        }
+        at = at.saturating_add(1);
+    }
+    true
+}
+
+// Reads and consumes once, behind so many bytes. None at the end, or where the bytes aren't those that were written.
+fn read_once<R: Wait>(rt: &R, pipe: &Pipe, r: &mut ReaderEnd, before: u64) -> Option<u64>
+    requires { IsOf pipe.now r.old.seat }
+    ensures { IsOf pipe.now r.new.seat }
+{
+    if r.lending() {
+        return None;
+    }
+    pipe.read(rt, r);
+    let lent = r.lent();
+    let len = lent.len() as u64;
+    if !is_in_order(lent, before) {
+        return None;
+    }
+    pipe.advance(rt, r, len, len);
+    (len > 0).then_some(len)
+}
+
+// Reads to the end, and tells how many bytes came in order.
+fn read_pieces<R: Wait>(rt: &R, pipe: &Pipe, mut r: ReaderEnd) -> (ReaderDone, u64)
+    requires { IsOf pipe.now r.seat }
+    ensures { IsOf pipe.now result.0 }
+{
+    let mut sum: u64 = 0;
+    for _ in rt.forever() {
+        match read_once(rt, pipe, &mut r, sum) {
+            Some(len) => sum = sum.saturating_add(len),
+            None => break,
+        }
+    }
+    (pipe.complete_reader(rt, r, 0), sum)
+}
+
+// How many of the bytes of so many pieces come through a pipe in order, between two threads that wait for each other.
+fn passed<R: Threads + Wait + Sync>(
+    rt: &R,
+    pipe: &Pipe,
+    w: WriterEnd,
+    r: ReaderEnd,
+    pieces: u64,
+) -> u64
+    requires writer { IsOf pipe.now w.seat }
+    requires reader { IsOf pipe.now r.seat }
+{
+    let (_done, (_reader, sum)) = join(
+        rt,
+        || -> Option<WriterDone>
+            requires { IsOf pipe.now w.seat }
+        { write_pieces(rt, pipe, w, pieces) },
+        || -> (ReaderDone, u64)
+            requires { IsOf pipe.now r.seat }
+        { read_pieces(rt, pipe, r) },
+    );
+    sum
+}
+
+#[test]
+fn bytes_pass_in_order_between_threads_that_wait(rt: HostRuntime) -> Result<(), Fail> {
+    let (pipe, w, r, _k) = small(&rt).ok_or("memory")?;
+    assert_eq!(rt; passed(&rt, &pipe, w, r, 250), 5_000);
+    let (pipe, w, r, _k) = with_two_segments(&rt).ok_or("memory")?;
+    assert_eq!(rt; passed(&rt, &pipe, w, r, 250), 5_000);
+    Ok(())
+}
+
+// Gives way for so long that a thread beside this one, which waits for it, sleeps.
+fn linger() {
+    for _ in 0..2_000 {
+        yield_now();
+    }
+}
+
+// Reads once, and waits for that.
+fn read_first<R: Wait>(rt: &R, pipe: &Pipe, mut r: ReaderEnd) -> Option<ReadReply>
+    requires { IsOf pipe.now r.seat }
+{
+    read_waiting(rt, pipe, &mut r)
+}
+
+// Cancels a read, late.
+fn cancel_later<R: Wait>(rt: &R, pipe: &Pipe, mut k: Canceller) -> Canceller
+    requires { IsOf pipe.now k }
+{
+    linger();
+    for _ in rt.forever() {
+        if pipe.try_cancel_read(&mut k).is_ok() {
+            break;
+        }
+    }
+    k
+}
+
+// Fills a pipe of two segments, and waits for room.
+fn room_when_full<R: Wait>(rt: &R, pipe: &Pipe, mut w: WriterEnd) -> Option<usize>
+    requires { IsOf pipe.now w.seat }
+{
+    for _ in 0..2 {
+        pipe.room(rt, &mut w, 64).ok()?;
+        if !draft(&mut w, &[7; 64]) {
+            return None;
+        }
+    }
+    pipe.flush(rt, &mut w).ok()?;
+    pipe.room(rt, &mut w, 1).ok()
+}
+
+// Completes the reader, late.
+fn leave_later<R: Wait>(rt: &R, pipe: &Pipe, r: ReaderEnd) -> ReaderDone
+    requires { IsOf pipe.now r.seat }
+{
+    linger();
+    pipe.complete_reader(rt, r, 9)
+}
+
+// What a reader that waits is told when its read is canceled.
+fn canceled<R: Threads + Wait + Sync>(
+    rt: &R,
+    pipe: &Pipe,
+    r: ReaderEnd,
+    k: Canceller,
+) -> Option<ReadReply>
+    requires reader { IsOf pipe.now r.seat }
+    requires canceller { IsOf pipe.now k }
+{
+    let (reply, _canceller) = join(
+        rt,
+        || -> Option<ReadReply>
+            requires { IsOf pipe.now r.seat }
+        { read_first(rt, pipe, r) },
+        || -> Canceller
+            requires { IsOf pipe.now k }
+        { cancel_later(rt, pipe, k) },
+    );
+    reply
+}
+
+// How much room a writer that waits is granted when the reader completes.
+fn left<R: Threads + Wait + Sync>(rt: &R, pipe: &Pipe, w: WriterEnd, r: ReaderEnd) -> Option<usize>
+    requires writer { IsOf pipe.now w.seat }
+    requires reader { IsOf pipe.now r.seat }
+{
+    let (granted, _reader) = join(
+        rt,
+        || -> Option<usize>
+            requires { IsOf pipe.now w.seat }
+        { room_when_full(rt, pipe, w) },
+        || -> ReaderDone
+            requires { IsOf pipe.now r.seat }
+        { leave_later(rt, pipe, r) },
+    );
+    granted
+}
+
+#[test]
+fn an_end_that_waits_is_woken_by_a_cancellation_and_a_completion(
+    rt: HostRuntime,
+) -> Result<(), Fail> {
+    let (pipe, _w, r, k) = small(&rt).ok_or("memory")?;
+    let empty = ReadReply::Ready {
+        canceled: true,
+        ended: None,
+        len: 0,
+    };
+    assert!(rt; canceled(&rt, &pipe, r, k) == Some(empty));
+    let (pipe, w, r, _k) = with_two_segments(&rt).ok_or("memory")?;
+    assert!(rt; left(&rt, &pipe, w, r) == Some(64));
     Ok(())
 }

@@ -80,6 +80,7 @@ impl Pipe {
     {
         let answer = turns::commit::<Brand>(&self.cell, &mut w.seat, w.draft.draft())?;
         w.draft.clear();
+        self.unpark(answer.1);
         Ok(answer)
     }
 
@@ -93,11 +94,22 @@ impl Pipe {
         ensures refused { IfErr result (λ back. RefusesFlush (length w.draft) back.fault w.seat back.end.seat) }
         ensures kept { IfErr result (λ back. (back.end.draft ≡ w.draft) × (back.end.free ≡ w.free)) }
     {
-        let WriterEnd { mut seat, draft } = w;
+        let WriterEnd {
+            mut seat,
+            draft,
+            parker,
+        } = w;
         match turns::complete::<Brand>(&self.cell, &mut seat, draft.draft(), code) {
-            Ok(wake) => Ok((WriterDone { seat }, wake)),
+            Ok(wake) => {
+                self.unpark(wake);
+                Ok((WriterDone { seat }, wake))
+            }
             Err(fault) => Err(WriterRefused {
-                end: WriterEnd { seat, draft },
+                end: WriterEnd {
+                    seat,
+                    draft,
+                    parker,
+                },
                 fault,
             }),
         }

@@ -1,0 +1,266 @@
+-- What attempts, made one behind the other, leave of an end.
+use Rattle.std.proofs.Common.{◌≡◌, ◌<◌, ◌≤◌, ◌^◌, ◌⊎◌, inl, inr, ℕ, ◌+◌, Bool, true, false, cond, List, [], ◌∷◌, ◌++◌, length, reverse, replicate, refl, sym, ap, subst, ◌∙◌, arith, Option, Some, None, append_assoc, append-nil}
+use Rattle.std.specs.Prelude.{IsNone, IsSomeAnd, option_map, Ok, Err}
+use Rattle.std.proofs.lemmas.List.{replicate_more}
+use Rattle.pipe_core.specs.declared.reply.Wake.{Wake}
+use Rattle.pipe_core.specs.declared.reply.ReadReply.{ReadReply}
+use Rattle.pipe_core.specs.declared.reply.ReadReply.TheVariants as read
+use Rattle.pipe_core.specs.declared.reply.FlushReply.{FlushReply}
+use Rattle.pipe_core.specs.History.{Call, Commit, Read, writer_end}
+use Rattle.pipe_core.specs.Progress.{total, examined, held, canceled_read}
+use Rattle.pipe_core.specs.Flushes.{reply_to_commit}
+use Rattle.pipe_core.specs.Reads.{read_is_ready, reply_to_read}
+use Rattle.pipe_core.specs.Lends.{lend}
+use Rattle.pipe_core.specs.Answers.{Answer, Flushed, Gave, Woke}
+use Rattle.pipe_core.specs.Pipe.{runs_of, closing}
+use Rattle.pipe_core.proofs.OrderLemmas.{ordered}
+use Rattle.pipe_shared.specs.declared.options.Options.{Options}
+use Rattle.pipe_shared.specs.declared.faults.TryFault.{TryFault}
+use Rattle.pipe_shared.specs.declared.faults.TryFault.TheVariants as try
+use Rattle.pipe_shared.specs.declared.faults.FlushFault.{FlushFault}
+use Rattle.pipe_shared.specs.declared.faults.FlushFault.TheVariants as flush
+use Rattle.pipe_shared.specs.declared.faults.RoomFault.TheVariants as room
+use Rattle.pipe_shared.specs.Log.{calls_of}
+use Rattle.pipe_shared.specs.Faults.{is_tried_again}
+use Rattle.pipe_shared.specs.State.{len_of}
+use Rattle.pipe_shared.specs.Turns.{Seat, Refuses, RefusesFlush, FindsTooMuch, Makes, MakesLast}
+use Rattle.pipe_shared.specs.Ends.{Writer, Reader}
+use Rattle.pipe_shared.specs.Granting.{Grants, GrantsAnew, Stays}
+use Rattle.pipe_shared.specs.Waiting.{Tried, untried, tried, AtLast}
+use Rattle.pipe_shared.specs.Attempts.{TriesRoom, TriesFlush, TriesCompletion, TriesRead, TriesToEnd, waits_for_room, waits_to_flush, waits_to_complete, waits_to_read, waits_for_turn, lends_nothing, FlushesOn, ReadsOn, CallsOnce, CompletesOnce}
+use Rattle.pipe_shared.proofs.StateLemmas.{calls_with, turned}
+use Rattle.pipe_shared.proofs.EndLemmas.{calls_made}
+
+-- what a seat has made itself, after a refusal and after a call
+pub refused_own : (fault : TryFault) (old new : Seat) → Refuses fault old new → new.own ≡ old.own
+refused_own (try.Busy word) old new r = ap (λ (s : Seat). s.own) r.after
+refused_own (try.Worn entries) old new r = ap (λ (s : Seat). s.own) r.wins.after
+
+pub made_own : (options : Options) (call : Call) (answer : Answer) (old new : Seat) → Makes options old call answer new → new.own ≡ old.own ++ call ∷ []
+made_own options call answer old new m = ap (λ (s : Seat). s.own) m.after ∙ ap (λ (s : Seat). s.own ++ call ∷ []) m.wins.after
+
+-- a call more behind calls of which all are the same
+one_more : (own before new : List Call) (call : Call) (n : ℕ) → before ≡ own ++ replicate n call → new ≡ before ++ call ∷ [] → new ≡ own ++ replicate (n + 1) call
+one_more own before new call n was is = is ∙ ap (λ l. l ++ call ∷ []) was ∙ append_assoc own (replicate n call) (call ∷ []) ∙ ap (λ l. own ++ l) (replicate_more n call)
+
+-- a read lends as much as its reply tells
+pub lend_by_reply : (h : List Call) → option_map length (lend (Read ∷ h)) ≡ len_of (reply_to_read h)
+lend_by_reply h = each (read_is_ready h)
+  where
+    each : (b : Bool) → option_map length (cond b (Some (held h)) None) ≡ len_of (cond b (read.Ready (canceled_read h) (writer_end h) (length (held h))) (read.Pending (examined h)))
+    each true = refl
+    each false = refl
+
+same_reply : (a b : ReadReply) (v w : Wake) → Gave a v ≡ Gave b w → a ≡ b
+same_reply a b v w e = cc
+
+module _ (options : Options) (old new : Seat) (reply : ReadReply) (wake : Wake) (made : Makes options old Read (Gave reply wake) new) where
+  pub read_told : reply ≡ reply_to_read (calls_of made.found.seen)
+  read_told = same_reply reply (reply_to_read (calls_of made.found.seen)) wake _ made.told
+
+  pub read_seen : calls_of new.seen ≡ Read ∷ calls_of made.found.seen
+  read_seen = calls_made Read made.found new made.after
+
+  pub read_lends : (lent : Option (List ℕ)) → lent ≡ lend (calls_of new.seen) → option_map length lent ≡ len_of reply
+  read_lends lent is = ap (option_map length) (is ∙ ap lend read_seen) ∙ lend_by_reply (calls_of made.found.seen) ∙ ap len_of (sym read_told)
+
+-- where nothing is lent, nothing stands, and else as many bytes as the reply tells
+pub nothing_lent : (lent : Option (List ℕ)) (reply : ReadReply) → option_map length lent ≡ len_of reply → lends_nothing reply ≡ true → IsNone lent
+nothing_lent None reply len waits = refl
+nothing_lent (Some bytes) (read.Ready canceled ended n) len waits = absurd cc
+nothing_lent (Some bytes) (read.Pending n) len waits = absurd cc
+
+pub something_lent : (lent : Option (List ℕ)) (reply : ReadReply) → option_map length lent ≡ len_of reply → lends_nothing reply ≡ false → IsSomeAnd lent (λ bytes. len_of reply ≡ Some (length bytes))
+something_lent (Some bytes) reply len settled = sym len
+something_lent None (read.Ready canceled ended n) len settled = absurd cc
+something_lent None (read.Pending n) len settled = absurd cc
+
+-- attempts at a read make reads alone
+pub reads_tried : (options : Options) (old new : Reader) → Tried (TriesRead options) waits_to_read old new → (n : ℕ) × (new.seat.own ≡ old.seat.own ++ replicate n Read)
+reads_tried options old new untried = (0, sym (append-nil old.seat.own))
+reads_tried options old new (tried before _ (Ok answer) t attempt waits) =
+    let more = reads_tried options old before t in
+    (more.0 + 1, one_more old.seat.own before.seat.own new.seat.own Read more.0 more.1 (made_own options Read (Gave answer.0 answer.1) before.seat new.seat attempt.0))
+reads_tried options old new (tried before _ (Err fault) t attempt waits) =
+    let more = reads_tried options old before t in
+    (more.0, refused_own fault before.seat new.seat attempt.0 ∙ more.1)
+
+pub reads_on : (options : Options) (old new : Reader) (reply : ReadReply) (wake : Wake) → AtLast (TriesRead options) waits_to_read old (Ok (reply, wake)) new → ReadsOn old.seat reply new.seat
+reads_on options old new reply wake a =
+    let before = reads_tried options old a.before a.tried in
+    let made = a.last.0 in
+    record {
+      found = calls_of made.found.seen;
+      seen = read_seen options a.before.seat new.seat reply wake made;
+      told = read_told options a.before.seat new.seat reply wake made;
+      times = before.0;
+      own = made_own options Read (Gave reply wake) a.before.seat new.seat made ∙ ap (λ l. l ++ Read ∷ []) before.1;
+    }
+
+-- attempts at a call that waits for turns alone make no entry, and leave the lend
+pub turns_tried : (options : Options) (call : Call) (old new : Reader) → Tried (TriesToEnd options call) waits_for_turn old new → (new.seat.own ≡ old.seat.own) × (new.lent ≡ old.lent)
+turns_tried options call old new untried = (refl, refl)
+turns_tried options call old new (tried before _ (Ok wake) t attempt waits) = absurd cc
+turns_tried options call old new (tried before _ (Err fault) t attempt waits) =
+    let kept = turns_tried options call old before t in
+    (refused_own fault before.seat new.seat attempt.0 ∙ kept.0, attempt.1 ∙ kept.1)
+
+pub called_once : (options : Options) (call : Call) (old before : Reader) (wake : Wake) (new : Seat) → Tried (TriesToEnd options call) waits_for_turn old before → Makes options before.seat call (Woke wake) new → CallsOnce old.seat call new
+called_once options call old before wake new t made = record {
+  found = calls_of made.found.seen;
+  seen = calls_made call made.found new made.after;
+  own = made_own options call (Woke wake) before.seat new made ∙ ap (λ l. l ++ call ∷ []) (turns_tried options call old before t).0;
+}
+
+-- what a writer had drafted, was granted and has made is as it was
+pub record IsAsBefore (old new : Writer) : Type 0 where
+  pub draft : new.draft ≡ old.draft
+  pub free : new.free ≡ old.free
+  pub own : new.seat.own ≡ old.seat.own
+
+pub as_before : (a b c : Writer) → IsAsBefore a b → IsAsBefore b c → IsAsBefore a c
+as_before a b c f g = record { draft = g.draft ∙ f.draft; free = g.free ∙ f.free; own = g.own ∙ f.own }
+
+pub refused_flush : (fault : FlushFault) (old new : Writer) → RefusesFlush (length old.draft) fault old.seat new.seat → Stays old new → IsAsBefore old new
+refused_flush (flush.Busy word) old new r s = record { draft = s.draft; free = s.free; own = ap (λ (x : Seat). x.own) r.after }
+refused_flush (flush.Worn entries) old new r s = record { draft = s.draft; free = s.free; own = ap (λ (x : Seat). x.own) r.wins.after }
+refused_flush (flush.TooMuch total) old new r s = record { draft = s.draft; free = s.free; own = ap (λ (x : Seat). x.own) r.wins.after }
+
+-- attempts at the writer's completion leave all as it was
+pub completion_tried : (options : Options) (code : ℕ) (old new : Writer) → Tried (TriesCompletion options code) waits_to_complete old new → IsAsBefore old new
+completion_tried options code old new untried = record { draft = refl; free = refl; own = refl }
+completion_tried options code old new (tried before _ (Ok wake) t attempt waits) = absurd cc
+completion_tried options code old new (tried before _ (Err fault) t attempt waits) =
+    as_before old before new (completion_tried options code old before t) (refused_flush fault before new attempt.0 attempt.1)
+
+completed_once : (options : Options) (old before new : Seat) (draft : List ℕ) (code : ℕ) (wake : Wake) → before.own ≡ old.own → MakesLast options before draft code wake new → CompletesOnce old draft code new
+completed_once options old before new draft code wake same m = record {
+  found = calls_of m.found.seen;
+  seen = ap (λ (s : Seat). calls_of s.seen) m.after ∙ calls_with m.found.seen m.found.number (reverse (closing draft code)) ∙ ap (λ l. l ++ calls_of m.found.seen) (turned draft code);
+  own = ap (λ (s : Seat). s.own) m.after ∙ ap (λ (s : Seat). s.own ++ reverse (closing draft code)) m.wins.after ∙ ap (λ l. l ++ reverse (closing draft code)) same;
+}
+
+pub completes_once : (options : Options) (code : ℕ) (old before : Writer) (wake : Wake) (new : Seat) → Tried (TriesCompletion options code) waits_to_complete old before → MakesLast options before.seat before.draft code wake new
+    → CompletesOnce old.seat old.draft code new
+completes_once options code old before wake new t made =
+    let kept = completion_tried options code old before t in
+    completed_once options old.seat before.seat new old.draft code wake kept.own (subst (λ d. MakesLast options before.seat d code wake new) kept.draft made)
+
+-- the total of which a refusal tells, and that the draft would pass the most
+pub too_much : (size told : ℕ) (old new : Seat) (draft : List ℕ) → FindsTooMuch size told old new → size ≡ length draft → (told ≡ length (total (calls_of new.seen))) × (2 ^ 62 < told + length draft)
+too_much size told old new draft r same = (r.told, omega (arith, r.passes, same))
+
+-- the one refusal that isn't tried again
+pub refused_for_good : (fault : FlushFault) (old new : Writer) (draft : List ℕ) → RefusesFlush (length old.draft) fault old.seat new.seat → is_tried_again fault ≡ false → old.draft ≡ draft
+    → (fault ≡ flush.TooMuch (length (total (calls_of new.seat.seen)))) × (2 ^ 62 < length (total (calls_of new.seat.seen)) + length draft)
+refused_for_good (flush.Busy word) old new draft r good same = absurd cc
+refused_for_good (flush.Worn entries) old new draft r good same = absurd cc
+refused_for_good (flush.TooMuch told) old new draft r good same = (ap (λ (n : ℕ). flush.TooMuch n) r.told, omega (arith, r.told, r.passes, ap length same))
+
+-- a commit more of nothing
+asked_again : (own before new : List Call) (first again : Call) (n : ℕ) → before ≡ own ++ first ∷ replicate n again → new ≡ before ++ again ∷ [] → new ≡ own ++ first ∷ replicate (n + 1) again
+asked_again own before new first again n was is = is ∙ ap (λ l. l ++ again ∷ []) was ∙ append_assoc own (first ∷ replicate n again) (again ∷ []) ∙ ap (λ l. own ++ first ∷ l) (replicate_more n again)
+
+-- the draft was committed, and then nothing so often
+pub record HasFlushed (old new : Writer) : Type 0 where
+  pub draft : new.draft ≡ []
+  pub free : length new.free ≡ length old.free
+  pub times : ℕ
+  pub own : new.seat.own ≡ old.seat.own ++ Commit (runs_of old.draft) ∷ replicate times (Commit [])
+
+flushed_first : (options : Options) (answer : Answer) (old before new : Writer) → IsAsBefore old before → Makes options before.seat (Commit (runs_of before.draft)) answer new.seat → new.draft ≡ [] → length new.free ≡ length before.free → HasFlushed old new
+flushed_first options answer old before new kept made none free = record {
+  draft = none;
+  free = free ∙ ap length kept.free;
+  times = 0;
+  own = made_own options (Commit (runs_of before.draft)) answer before.seat new.seat made ∙ ap (λ (d : List ℕ). before.seat.own ++ Commit (runs_of d) ∷ []) kept.draft ∙ ap (λ l. l ++ Commit (runs_of old.draft) ∷ []) kept.own;
+}
+
+flushed_again : (options : Options) (answer : Answer) (old before new : Writer) → HasFlushed old before → Makes options before.seat (Commit (runs_of before.draft)) answer new.seat → new.draft ≡ [] → length new.free ≡ length before.free → HasFlushed old new
+flushed_again options answer old before new h made none free = record {
+  draft = none;
+  free = free ∙ h.free;
+  times = h.times + 1;
+  own = asked_again old.seat.own before.seat.own new.seat.own (Commit (runs_of old.draft)) (Commit []) h.times h.own
+      (made_own options (Commit (runs_of before.draft)) answer before.seat new.seat made ∙ ap (λ (d : List ℕ). before.seat.own ++ Commit (runs_of d) ∷ []) h.draft);
+}
+
+flushed_not : (old before new : Writer) → HasFlushed old before → IsAsBefore before new → HasFlushed old new
+flushed_not old before new h kept = record { draft = kept.draft ∙ h.draft; free = ap length kept.free ∙ h.free; times = h.times; own = kept.own ∙ h.own }
+
+flushed : (options : Options) (answer : Answer) (old before new : Writer) → IsAsBefore old before ⊎ HasFlushed old before → Makes options before.seat (Commit (runs_of before.draft)) answer new.seat → new.draft ≡ [] → length new.free ≡ length before.free → HasFlushed old new
+flushed options answer old before new (inl kept) made none free = flushed_first options answer old before new kept made none free
+flushed options answer old before new (inr h) made none free = flushed_again options answer old before new h made none free
+
+not_flushed : (old before new : Writer) → IsAsBefore old before ⊎ HasFlushed old before → IsAsBefore before new → IsAsBefore old new ⊎ HasFlushed old new
+not_flushed old before new (inl kept) same = inl (as_before old before new kept same)
+not_flushed old before new (inr h) same = inr (flushed_not old before new h same)
+
+-- attempts at a flush commit the draft once, if at all
+pub flush_tried : (options : Options) (old new : Writer) → Tried (TriesFlush options) waits_to_flush old new → IsAsBefore old new ⊎ HasFlushed old new
+flush_tried options old new untried = inl (record { draft = refl; free = refl; own = refl })
+flush_tried options old new (tried before _ (Ok answer) t attempt waits) =
+    inr (flushed options (Flushed answer.0 answer.1) old before new (flush_tried options old before t) attempt.0 attempt.1 attempt.2)
+flush_tried options old new (tried before _ (Err fault) t attempt waits) = not_flushed old before new (flush_tried options old before t) (refused_flush fault before new attempt.0 attempt.1)
+
+same_flush_reply : (a b : FlushReply) (v w : Wake) → Flushed a v ≡ Flushed b w → a ≡ b
+same_flush_reply a b v w e = cc
+
+module _ (options : Options) (old before new : Writer) (reply : FlushReply) (wake : Wake) (t : Tried (TriesFlush options) waits_to_flush old before) (made : Makes options before.seat (Commit (runs_of before.draft)) (Flushed reply wake) new.seat)
+    (none : new.draft ≡ []) (free : length new.free ≡ length before.free) where
+  has_flushed : HasFlushed old new
+  has_flushed = flushed options (Flushed reply wake) old before new (flush_tried options old before t) made none free
+
+  pub same_free : length new.free ≡ length old.free
+  same_free = has_flushed.free
+
+  pub flushes_on : FlushesOn options old.seat old.draft reply new.seat
+  flushes_on = record {
+    runs = runs_of before.draft;
+    found = calls_of made.found.seen;
+    seen = calls_made (Commit (runs_of before.draft)) made.found new.seat made.after;
+    told = same_flush_reply reply (reply_to_commit options.pause options.resume (calls_of made.found.seen) (runs_of before.draft)) wake _ made.told;
+    times = has_flushed.times;
+    own = has_flushed.own;
+  }
+
+-- a flush of nothing isn't too much
+nothing_is_too_much : (size told : ℕ) (old new : Seat) → FindsTooMuch size told old new → size ≡ 0 → ⊥
+nothing_is_too_much size told old new r none =
+    let most = (ordered (calls_of new.seen) r.wins.lawful.legal).total_in in
+    omega (arith, most, r.told, r.passes, none)
+
+-- so where it is too much, no flush was made before
+pub not_yet : (options : Options) (told : ℕ) (old before new : Writer) → Tried (TriesFlush options) waits_to_flush old before → FindsTooMuch (length before.draft) told before.seat new.seat → IsAsBefore old before
+not_yet options told old before new t r = each (flush_tried options old before t)
+  where
+    each : IsAsBefore old before ⊎ HasFlushed old before → IsAsBefore old before
+    each (inl kept) = kept
+    each (inr h) = absurd (nothing_is_too_much (length before.draft) told before.seat new.seat r (ap length h.draft))
+
+-- attempts at room leave the draft, and make no entry
+pub room_tried : (options : Options) (hint : ℕ) (old new : Writer) → Tried (TriesRoom options hint) waits_for_room old new → (new.draft ≡ old.draft) × (new.seat.own ≡ old.seat.own)
+room_tried options hint old new untried = (refl, refl)
+room_tried options hint old new (tried before _ (Ok n) t attempt waits) = absurd cc
+room_tried options hint old new (tried before _ (Err (room.Busy word)) t attempt waits) =
+    let kept = room_tried options hint old before t in
+    (attempt.1.draft ∙ kept.0, ap (λ (s : Seat). s.own) attempt.0.finds.after ∙ kept.1)
+room_tried options hint old new (tried before _ (Err (room.TooLarge asked segment)) t attempt waits) = absurd cc
+room_tried options hint old new (tried before _ (Err (room.Full held draft capacity)) t attempt waits) =
+    let kept = room_tried options hint old before t in
+    (attempt.1.draft ∙ kept.0, ap (λ (s : Seat). s.own) attempt.0.wins.after ∙ kept.1)
+
+-- none is made again for a hint that is too large
+pub room_untried : (options : Options) (hint : ℕ) (old new : Writer) → Tried (TriesRoom options hint) waits_for_room old new → options.segment < hint → new ≡ old
+room_untried options hint old new untried large = refl
+room_untried options hint old new (tried before _ (Ok n) t attempt waits) large = absurd cc
+room_untried options hint old new (tried before _ (Err (room.Busy word)) t attempt waits) large = absurd (omega (arith, large, attempt.0.small))
+room_untried options hint old new (tried before _ (Err (room.TooLarge asked segment)) t attempt waits) large = absurd cc
+room_untried options hint old new (tried before _ (Err (room.Full held draft capacity)) t attempt waits) large = absurd (omega (arith, large, attempt.0.small))
+
+pub granted_own : (options : Options) (hint n : ℕ) (old new : Writer) → Grants options hint n old new → new.seat.own ≡ old.seat.own
+granted_own options hint n old new g = each g.how
+  where
+    each : (hint ≤ length old.free) × (new ≡ old) ⊎ GrantsAnew options hint n old new → new.seat.own ≡ old.seat.own
+    each (inl same) = ap (λ (w : Writer). w.seat.own) same.1
+    each (inr anew) = ap (λ (s : Seat). s.own) anew.wins.after

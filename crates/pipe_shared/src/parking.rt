@@ -1,0 +1,40 @@
+//! How a call that is tried again waits between its attempts.
+
+use crossbeam_utils::Backoff;
+use crossbeam_utils::sync::Parker;
+use std::sync::Wait;
+
+/// How often a call whose answer is up to the other end is tried again before its thread sleeps. To sleep and be woken
+/// takes microseconds, which is longer than the other end takes for a segment of some KiB.
+const TRIES: u32 = 64;
+
+/// The attempts of one call so far.
+#[derive(Drop)]
+pub struct Attempts {
+    backoff: Backoff,
+    waited: u32,
+}
+
+impl Attempts {
+    pub fn new() -> Attempts {
+        Attempts {
+            backoff: Backoff::new(),
+            waited: 0,
+        }
+    }
+
+    // Waits for a turn, which is never held for long.
+    pub fn wait_for_turn(&self) {
+        self.backoff.snooze();
+    }
+
+    // Waits for the other end.
+    pub fn wait_for_other<R: Wait>(&mut self, rt: &R, parker: &Parker) {
+        if self.waited < TRIES {
+            self.waited += 1;
+            self.backoff.snooze();
+        } else {
+            parker.park(rt);
+        }
+    }
+}
