@@ -1,0 +1,14 @@
+//! A large valid input that is made from a number.
+#![tactic(auto)]
+
+mod cases;
+mod frame;
+mod laws;
+mod payload;
+mod source;
+#[cfg(test)]
+mod tests;
+
+pub use cases::generator_cases;
+pub use laws::{generated_is_small, generated_is_spellable};
+pub use source::{GenSource, gen_len};
