@@ -4,5 +4,6 @@ pub mod SeenLemmas
 pub mod TurnLemmas
 pub mod HoldLemmas
 pub mod EndLemmas
+pub mod HeardLemmas
 pub mod WaitingLemmas
 pub mod LocalLemmas

@@ -1,5 +1,6 @@
 pub mod Options
 pub mod Log
+pub mod Heard
 pub mod State
 pub mod Faults
 pub mod Turns

@@ -6,7 +6,10 @@ mod canceling;
 mod ends;
 mod entry;
 mod faults;
+mod laws;
 mod local;
+#[cfg(test)]
+mod local_tests;
 mod options;
 mod parking;
 mod pipe;
@@ -23,6 +26,7 @@ pub use ends::{
     Canceller, ReaderDone, ReaderEnd, ReaderRefused, WriterDone, WriterEnd, WriterRefused,
 };
 pub use faults::{FlushFault, LocalRoomFault, RoomFault, TryFault};
+pub use laws::others_are_heard_first;
 pub use local::LocalPipe;
 pub use options::{Field, MakeError, Options};
 pub use pipe::{Closed, Made, Pipe};
