@@ -1,2 +1,4 @@
 pub mod DeviceLemmas
+pub mod NamesLemmas
+pub mod ReturnsLemmas
 pub mod SourceLemmas

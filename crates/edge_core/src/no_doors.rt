@@ -120,16 +120,14 @@ impl Doors for NoDoors {
 
     fn give_inlet(&mut self, inlet: WholeSource)
         requires out { (no_doors_state self.old).inlets_out ≢ 0 }
-        ensures returned {
-            TakesBackInlet (no_doors_state self.old) (whole_source_state inlet) (no_doors_state self.new) }
+        ensures returned { TakesBackInlet (no_doors_state self.old) (whole_source_state inlet) (no_doors_state self.new) }
     {
         self.inlets_out -= 1;
     }
 
     fn give_outlet(&mut self, outlet: MemSink)
         requires out { (no_doors_state self.old).outlets_out ≢ 0 }
-        ensures returned {
-            TakesBackOutlet (no_doors_state self.old) (mem_sink_state outlet) (no_doors_state self.new) }
+        ensures returned { TakesBackOutlet (no_doors_state self.old) (mem_sink_state outlet) (no_doors_state self.new) }
     {
         self.outlets_out -= 1;
         if outlet.faults() != 0 {
