@@ -1,5 +1,6 @@
 pub mod Device
 pub mod Doors
+pub mod MemDoors
 pub mod MemSink
 pub mod MemSource
 pub mod Names

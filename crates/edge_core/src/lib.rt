@@ -3,6 +3,7 @@
 
 mod device;
 mod doors;
+mod mem_doors;
 mod mem_sink;
 mod mem_source;
 mod names;
@@ -15,6 +16,7 @@ mod writing;
 
 pub use device::{Failed, Sink, Source};
 pub use doors::{DoorError, Doors};
+pub use mem_doors::MemDoors;
 pub use mem_sink::MemSink;
 pub use mem_source::MemSource;
 pub use no_doors::NoDoors;
