@@ -1,5 +1,5 @@
 -- The place of a name, and what the name's entry there says of the names.
-use Rattle.std.proofs.Common.{◌≡◌, ◌+◌, ◌<◌, ◌⊎◌, inl, inr, ℕ, Bool, true, false, List, [], ◌∷◌, length, Option, Some, None, option_and_then, is_some, refl, sym, ap, ◌∙◌, arith, slice_index_or, slice_set, subst, suc, if◌then◌else◌}
+use Rattle.std.proofs.Common.{◌≡◌, ◌+◌, ◌<◌, inl, inr, ℕ, Bool, List, [], ◌∷◌, length, Option, Some, None, option_and_then, is_some, refl, sym, ap, ◌∙◌, arith, slice_index_or, slice_set, subst, suc}
 use Rattle.std.proofs.lemmas.Bool.{cases_Bool}
 use Rattle.std.proofs.lemmas.Option.{same_Some}
 use Rattle.std.specs.Str.{bytes_eq}

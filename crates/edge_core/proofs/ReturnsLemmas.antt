@@ -2,7 +2,6 @@
 use Rattle.std.proofs.Common.{◌≡◌, List, [], ◌∷◌, ◌++◌, map, refl, ap}
 use Rattle.std.proofs.lemmas.List.{append-nil, map-append}
 use Rattle.std.specs.declared.snapshot.Snapshot.{Snapshot}
-use Rattle.edge_core.specs.Device.{SinkState}
 use Rattle.edge_core.specs.Doors.{Device, an_inlet, an_outlet}
 use Rattle.edge_core.specs.MemSink.{MemSinkState, mem_sink_state}
 use Rattle.edge_core.specs.MemSource.{MemSourceState}

@@ -1,6 +1,8 @@
 -- What a contract sees of doors in memory.
-use Rattle.std.specs.Prelude.{ℕ, ◌+◌, Bool, false, List, [], map, Some, string_bytes, String}
+use Rattle.std.specs.Prelude.{ℕ, ◌+◌, Bool, true, false, not, ◌&&◌, List, [], ◌∷◌, map, Some, string_bytes, String}
 use Rattle.std.specs.declared.alloc.Global.{Global}
+use Rattle.std.specs.List.{list_any}
+use Rattle.std.specs.Str.{bytes_eq}
 use Rattle.edge_core.specs.Doors.{DoorsState, Named}
 use Rattle.edge_core.specs.MemSource.{MemSourceState}
 use Rattle.edge_core.specs.MemSink.{MemSinkState}
@@ -71,3 +73,8 @@ unopened devices accepted = record {
     returned = [];
   });
 }
+
+-- No two of these names are the same.
+abbrev pub all_differ : List (List ℕ) → Bool
+all_differ [] = true
+all_differ (name ∷ names) = not (list_any (bytes_eq name) names) && all_differ names

@@ -1,7 +1,8 @@
 -- What a contract sees of the devices of doors in memory that are out or came back.
-use Rattle.std.specs.Prelude.{ℕ, ◌∷◌, List, []}
+use Rattle.std.specs.Prelude.{ℕ, ◌==◌, ◌∷◌, List, [], if◌then◌else◌}
 use Rattle.edge_core.specs.Device.{SinkState}
 use Rattle.edge_core.specs.Doors.{Device, an_inlet, an_outlet}
+use Rattle.edge_core.specs.Plan.{raised}
 use Rattle.edge_core.specs.MemSource.{mem_source_state}
 use Rattle.edge_core.specs.MemSink.{MemSinkState, mem_sink_state}
 use Rattle.edge_core.specs.declared.returns.Returned.{Returned}
@@ -29,3 +30,7 @@ abbrev pub sinks_among : List Device → List SinkState
 sinks_among [] = []
 sinks_among (an_inlet source ∷ others) = sinks_among others
 sinks_among (an_outlet sink ∷ others) = sink ∷ sinks_among others
+
+-- A count of faulty devices after one with this many faults.
+abbrev pub counted : ℕ → ℕ → ℕ
+counted faults count = if faults == 0 then count else raised count

@@ -25,4 +25,6 @@ pub use whole_source::WholeSource;
 pub use writing::{BrokenOff, write_all};
 
 #[cfg(test)]
+mod door_tests;
+#[cfg(test)]
 mod tests;

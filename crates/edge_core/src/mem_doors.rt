@@ -1,15 +1,13 @@
 //! Doors in memory, whose openings fail as planned.
 
-ghost use Rattle.std.specs.Prelude.{◌≡◌, ◌≢◌, ◌↔◌, ◌⊎◌, ◌∷◌, ◌++◌, [], true, false, All, map, IsErrOf, IsTrue, OnOk, IfOk, IfErr};
-ghost use Rattle.std.specs.List.{IsDistinct};
-ghost use Rattle.std.specs.Str.{bytes_eq};
-ghost use Rattle.edge_core.specs.Doors.{OpensInlet, OpensOutlet, Listens, Accepts, FailsWith, TakesBackInlet, TakesBackOutlet};
-ghost use Rattle.edge_core.specs.MemDoors.{mem_doors_state, plan_after, with_inlet_out, with_outlet_out, IsFresh, name_of, unopened};
+ghost use Rattle.std.specs.Prelude.{◌≡◌, ◌≢◌, ◌↔◌, ◌⊎◌, ◌-◌, ◌∷◌, ◌++◌, [], true, false, All, map, IsErrOf, IsTrue, OnOk, IfOk, IfErr};
+ghost use Rattle.edge_core.specs.Doors.{OpensInlet, OpensOutlet, Listens, Accepts, FailsWith, TakesBackInlet, TakesBackOutlet, an_inlet, an_outlet};
+ghost use Rattle.edge_core.specs.MemDoors.{all_differ, mem_doors_state, plan_after, with_inlet_out, with_outlet_out, IsFresh, name_of, unopened};
 ghost use Rattle.edge_core.specs.MemSink.{mem_sink_state};
 ghost use Rattle.edge_core.specs.MemSource.{mem_source_state};
 ghost use Rattle.edge_core.specs.Names.{IsFreshSource, IsFreshSink, inlet_of, outlet_of, named_with, without_inlet, without_outlet};
 ghost use Rattle.edge_core.specs.Plan.{plan_of, FailsNext, after_call};
-ghost use Rattle.edge_core.specs.Returns.{nothing_out, sinks_among};
+ghost use Rattle.edge_core.specs.Returns.{counted, nothing_out, sinks_among};
 
 use crate::doors::{DoorError, Doors};
 use crate::mem_sink::MemSink;
@@ -68,7 +66,7 @@ impl MemDoors {
         requires named_fresh { All IsFresh named.items }
         requires accepted_fresh { All IsFreshSource accepted.items }
         requires connected_fresh { All IsFreshSink connected.items }
-        requires names_differ { IsDistinct bytes_eq (map name_of named.items) }
+        requires names_differ { IsTrue (all_differ (map name_of named.items)) }
         ensures made { IfOk result (λ doors. doors ≡ record {
           names = map named_with named.items;
           accepted = accepted.items;
@@ -247,11 +245,15 @@ impl Doors for MemDoors {
     fn give_inlet(&mut self, inlet: MemSource)
         // As any doors.
         requires out { (mem_doors_state self.old).inlets_out ≢ 0 }
-        ensures returned {
-            TakesBackInlet (mem_doors_state self.old) (mem_source_state inlet) (mem_doors_state self.new) }
+        ensures returned { TakesBackInlet (mem_doors_state self.old) (mem_source_state inlet) (mem_doors_state self.new) }
 
-        ensures after { self.new ≡ record self.old { returns = self.new.returns } }
-        ensures outlets { self.new.returns.outlets ≡ self.old.returns.outlets }
+        ensures after { self.new ≡ record self.old {
+          returns = record self.old.returns {
+            returned = self.old.returns.returned ++ an_inlet (mem_source_state inlet) ∷ [];
+            inlets_out = self.old.returns.inlets_out - 1;
+            faults = counted inlet.plan.faults self.old.returns.faults;
+          };
+        } }
     {
         self.returns.take_inlet(inlet);
     }
@@ -259,11 +261,16 @@ impl Doors for MemDoors {
     fn give_outlet(&mut self, outlet: MemSink)
         // As any doors.
         requires out { (mem_doors_state self.old).outlets_out ≢ 0 }
-        ensures returned {
-            TakesBackOutlet (mem_doors_state self.old) (mem_sink_state outlet) (mem_doors_state self.new) }
+        ensures returned { TakesBackOutlet (mem_doors_state self.old) (mem_sink_state outlet) (mem_doors_state self.new) }
 
-        ensures after { self.new ≡ record self.old { returns = self.new.returns } }
-        ensures outlets { self.new.returns.outlets ≡ self.old.returns.outlets ++ outlet ∷ [] }
+        ensures after { self.new ≡ record self.old {
+          returns = record self.old.returns {
+            returned = self.old.returns.returned ++ an_outlet (mem_sink_state outlet) ∷ [];
+            outlets = self.old.returns.outlets ++ outlet ∷ [];
+            outlets_out = self.old.returns.outlets_out - 1;
+            faults = counted outlet.plan.faults self.old.returns.faults;
+          };
+        } }
     {
         self.returns.take_outlet(outlet);
     }

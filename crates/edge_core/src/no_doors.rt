@@ -2,6 +2,7 @@
 
 ghost use Rattle.std.specs.Prelude.{◌≡◌, ◌≢◌, IsErrOf, IsTrue, OnOk, IfOk, IfErr};
 ghost use Rattle.edge_core.specs.Plan.{raised};
+ghost use Rattle.edge_core.specs.Returns.{counted};
 ghost use Rattle.edge_core.specs.Doors.{OpensInlet, OpensOutlet, Listens, Accepts, FailsWith, Refuses, TakesBackInlet, TakesBackOutlet};
 ghost use Rattle.edge_core.specs.NoDoors.{no_doors_state, shut};
 ghost use Rattle.edge_core.specs.WholeSource.{whole_source_state};
@@ -13,6 +14,7 @@ use crate::whole_source::WholeSource;
 use std::alloc::Global;
 
 /// Doors that fail at each opening call.
+// That they listen, and that a device is out, are conditions of `Doors`, so both are fields. No opening changes them.
 #[derive(Debug, Drop)]
 pub struct NoDoors {
     refusals: u64,
@@ -128,6 +130,8 @@ impl Doors for NoDoors {
     fn give_outlet(&mut self, outlet: MemSink)
         requires out { (no_doors_state self.old).outlets_out ≢ 0 }
         ensures returned { TakesBackOutlet (no_doors_state self.old) (mem_sink_state outlet) (no_doors_state self.new) }
+
+        ensures counted { (no_doors_state self.new).faults ≡ counted outlet.plan.faults (no_doors_state self.old).faults }
     {
         self.outlets_out -= 1;
         if outlet.faults() != 0 {

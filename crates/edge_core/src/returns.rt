@@ -4,7 +4,7 @@ ghost use Rattle.std.specs.Prelude.{◌≡◌, ◌≢◌, ◌+◌, ◌-◌, ◌�
 ghost use Rattle.edge_core.specs.Doors.{CountsFaults, an_inlet, an_outlet};
 ghost use Rattle.edge_core.specs.MemSink.{mem_sink_state};
 ghost use Rattle.edge_core.specs.MemSource.{mem_source_state};
-ghost use Rattle.edge_core.specs.Returns.{nothing_out, sinks_among};
+ghost use Rattle.edge_core.specs.Returns.{counted, nothing_out, sinks_among};
 
 use crate::mem_sink::MemSink;
 use crate::mem_source::MemSource;
@@ -102,7 +102,7 @@ impl Returns {
         ensures returned { self.new ≡ record self.old {
           returned = self.old.returned ++ an_inlet (mem_source_state inlet) ∷ [];
           inlets_out = self.old.inlets_out - 1;
-          faults = self.new.faults;
+          faults = counted inlet.plan.faults self.old.faults;
         } }
     {
         self.devices
@@ -118,7 +118,7 @@ impl Returns {
           returned = self.old.returned ++ an_outlet (mem_sink_state outlet) ∷ [];
           outlets = self.old.outlets ++ outlet ∷ [];
           outlets_out = self.old.outlets_out - 1;
-          faults = self.new.faults;
+          faults = counted outlet.plan.faults self.old.faults;
         } }
     {
         let faults = outlet.faults();
@@ -131,7 +131,7 @@ impl Returns {
 
     fn count_faults(&mut self, faults: u64)
         ensures counted { CountsFaults self.old.faults faults self.new.faults }
-        ensures kept { self.new ≡ record self.old { faults = self.new.faults } }
+        ensures after { self.new ≡ record self.old { faults = counted faults self.old.faults } }
     {
         if faults != 0 {
             self.faults = self.faults.saturating_add(1);

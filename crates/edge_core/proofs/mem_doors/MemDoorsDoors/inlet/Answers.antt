@@ -20,9 +20,9 @@ returns-clause-opened c =
       returns = c.self.inside.returns;
     } in
     let opened = opens_inlet before c.args.name.now c.in-Some.inlet c.take_inlet.new.self c.start_call.new.self c.lend_inlet.new.self
-      c.self.invariant.0
-      (sym c.take_inlet.ensures.taken ∙ c.in-Some.is)
-      c.take_inlet.ensures.after
-      (ap (λ (plan : PlanState). plan.faults) c.in-Ok.ensures.counted)
-      c.in-Ok-lend_inlet.ensures.lent in
+    c.self.invariant.0
+    (sym c.take_inlet.ensures.taken ∙ c.in-Some.is)
+    c.take_inlet.ensures.after
+    (ap (λ (plan : PlanState). plan.faults) c.in-Ok.ensures.counted)
+    c.in-Ok-lend_inlet.ensures.lent in
     subst (λ (old : MemDoorsState). OpensInlet (mem_doors_state old) c.args.name.now (mem_source_state c.in-Some.inlet) (mem_doors_state (record before { names = c.take_inlet.new.self; plan = c.start_call.new.self; returns = c.lend_inlet.new.self }))) c.self.view_is opened

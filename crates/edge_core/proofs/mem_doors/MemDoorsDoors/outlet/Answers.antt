@@ -20,9 +20,9 @@ returns-clause-opened c =
       returns = c.self.inside.returns;
     } in
     let opened = opens_outlet before c.args.name.now c.in-Some.outlet c.take_outlet.new.self c.start_call.new.self c.lend_outlet.new.self
-      c.self.invariant.0
-      (sym c.take_outlet.ensures.taken ∙ c.in-Some.is)
-      c.take_outlet.ensures.after
-      (ap (λ (plan : PlanState). plan.faults) c.in-Ok.ensures.counted)
-      c.in-Ok-lend_outlet.ensures.lent in
+    c.self.invariant.0
+    (sym c.take_outlet.ensures.taken ∙ c.in-Some.is)
+    c.take_outlet.ensures.after
+    (ap (λ (plan : PlanState). plan.faults) c.in-Ok.ensures.counted)
+    c.in-Ok-lend_outlet.ensures.lent in
     subst (λ (old : MemDoorsState). OpensOutlet (mem_doors_state old) (mem_sink_state c.in-Some.outlet) (mem_doors_state (record before { names = c.take_outlet.new.self; plan = c.start_call.new.self; returns = c.lend_outlet.new.self }))) c.self.view_is opened
