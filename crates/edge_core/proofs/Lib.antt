@@ -1,2 +1,5 @@
 pub mod DeviceLemmas
+pub mod MemDoorsLemmas
+pub mod NamesLemmas
+pub mod ReturnsLemmas
 pub mod SourceLemmas

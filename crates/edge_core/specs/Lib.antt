@@ -1,6 +1,11 @@
 pub mod Device
+pub mod Doors
+pub mod MemDoors
 pub mod MemSink
 pub mod MemSource
+pub mod Names
+pub mod NoDoors
 pub mod Plan
+pub mod Returns
 pub mod StdEdges
 pub mod WholeSource

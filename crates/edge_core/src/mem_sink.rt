@@ -59,6 +59,12 @@ impl MemSink {
     {
         self.written.as_slice()
     }
+
+    pub(crate) fn faults(&self) -> u64
+        ensures { result ≡ self.now.plan.faults }
+    {
+        self.plan.faults()
+    }
 }
 
 impl Sink for MemSink {

@@ -40,6 +40,12 @@ impl MemSource {
             plan: Plan::new(cuts, fails),
         }
     }
+
+    pub(crate) fn faults(&self) -> u64
+        ensures { result ≡ self.now.plan.faults }
+    {
+        self.plan.faults()
+    }
 }
 
 impl Source for MemSource {

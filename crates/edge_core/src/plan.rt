@@ -62,6 +62,12 @@ impl Plan {
         Ok(())
     }
 
+    pub(crate) fn faults(&self) -> u64
+        ensures { result ≡ self.now.faults }
+    {
+        self.faults
+    }
+
     fn is_next_to_fail(&self) -> bool
         ensures { IsTrue result ↔ FailsNext self.now }
     {
