@@ -1,3 +1,4 @@
+mod CleanLemmas
 mod CountLemmas
 mod DeviceLemmas
 mod DrainLemmas

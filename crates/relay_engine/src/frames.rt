@@ -1,16 +1,16 @@
 //! The whole frames of some bytes, written as the output spells them.
 
-ghost use Rattle.std.specs.Prelude.{◌≡◌, ◌+◌, ◌<◌, ◌≤◌, ◌^◌, [], length, position, slice_range, take, IsNone, IfOk, IfErr, OnErr};
+ghost use Rattle.std.specs.Prelude.{◌≡◌, ◌+◌, ◌<◌, ◌≤◌, ◌^◌, [], length, position, slice_range, take, ◌-◌, IsNone, IfOk, IfErr, OnErr};
 ghost use Rattle.frame_model.specs.Spelling.{is_line_feed, obstacle, spelling};
 ghost use Rattle.frame_model.specs.Translation.{translation};
 ghost use Rattle.span_seq.specs.Sequence.{bytes};
-ghost use Rattle.relay_engine.specs.Frames.{Breaks, CountsWhole, Drains, Interrupts, IsFirst, StopsAt};
+ghost use Rattle.relay_engine.specs.Frames.{Breaks, CountsWhole, Drains, Interrupts, IsClean, IsFirst, StopsAt};
 ghost use Rattle.relay_engine.specs.Gathering.{Puts, PutsFront, begun};
 
 use crate::gathering::Gathering;
 use edge_core::{Failed, Sink};
 use frame_grammar::{BadKind, Cut, Framing, Job, can_spell, next_frame, spell_head, spell_tail};
-use span_seq::{One, Sequence, Spans};
+use span_seq::{Byte, One, Sequence, Spans};
 
 /// Why no further frame is passed on.
 #[derive(Clone, Copy, Debug, PartialEq, Eq)]
@@ -91,15 +91,17 @@ pub fn write_frames<C: Spans, K: Sink>(
 {
     let mut rest = *lent;
     let mut known = known;
+    let mut clean = 0;
     let mut passed = 0;
     let mut frames = 0;
     let mut written: u64 = 0;
     loop {
-        match first_frame(job, &rest, known, at_end) {
+        match first_frame(job, &rest, known, clean, at_end) {
             Ok((payload, len)) => {
                 let more = put_frame(job.output, &payload, gathering, sink)?;
                 rest = rest.without_front(len);
                 known = 0;
+                clean = clean_behind(job, &rest, clean, len);
                 passed += len;
                 frames += 1;
                 written = written.saturating_add(more);
@@ -117,14 +119,43 @@ pub fn write_frames<C: Spans, K: Sink>(
     }
 }
 
+/// How many bytes at the front of a sequence can stand in any payload of the output. A payload that becomes a line has no
+/// line feed, and one search of many small payloads is faster than one of each. 0 where nothing is gained.
+fn clean_front<C: Spans>(job: &Job, seq: &Sequence<'_, C>) -> u64
+    ensures within { result ≤ length (bytes seq.now) }
+    ensures clean { IsClean job.now result (bytes seq.now) }
+{
+    match (job.input, job.output) {
+        (Framing::Len4 | Framing::Len2, Framing::Line) => match seq.index_of(&Byte(b'\n')) {
+            Some(at) => at,
+            None => seq.len(),
+        },
+        _ => 0,
+    }
+}
+
+/// The same behind the first `len` bytes, where `rest` is what stands there.
+fn clean_behind<C: Spans>(job: &Job, rest: &Sequence<'_, C>, clean: u64, len: u64) -> u64
+    requires { len < clean → IsClean job.now (clean - len) (bytes rest.now) }
+    ensures { IsClean job.now result (bytes rest.now) }
+{
+    if len < clean {
+        return clean - len;
+    }
+    clean_front(job, rest)
+}
+
 /// The payload of the first frame, where there is one that can be spelt, with the frame's length. Else why there is none.
+/// The first `clean` bytes can stand in any payload.
 #[inline(always)]
 fn first_frame<'a, C: Spans>(
     job: &Job,
     rest: &Sequence<'a, C>,
     known: u64,
+    clean: u64,
     at_end: bool,
 ) -> Result<(Sequence<'a, C>, u64), Stop>
+    requires clean { IsClean job.now clean (bytes rest.now) }
     requires within { known ≤ length (bytes rest.now) }
     requires searched { job.now.input ≡ Framing.Line → IsNone (position is_line_feed (take known (bytes rest.now))) }
     ensures first { IfOk result (λ first. IsFirst job.now (bytes rest.now) at_end (bytes first.0) first.1) }
@@ -133,6 +164,9 @@ fn first_frame<'a, C: Spans>(
     match next_frame(job.input, job.max, rest, known, at_end) {
         Cut::Frame { from, to, end } => {
             let payload = part(rest, from, to);
+            if to < clean {
+                return Ok((payload, end));
+            }
             match can_spell(job.output, &payload) {
                 Ok(()) => Ok((payload, end)),
                 Err(kind) => Err(Stop::Bad(kind)),
@@ -190,7 +224,7 @@ fn whole_frames<C: Spans>(job: &Job, lent: &Sequence<'_, C>, at_end: bool, writt
     let mut rest = *lent;
     let mut left = written;
     let mut frames = 0;
-    while let Ok((payload, len)) = first_frame(job, &rest, 0, at_end) {
+    while let Ok((payload, len)) = first_frame(job, &rest, 0, 0, at_end) {
         let more = u128::from(frame_len(job.output, &payload));
         if more > left {
             break;

@@ -2,6 +2,7 @@
 use Rattle.std.proofs.Common.{[], refl, ◌∙◌, ap, drop, arith, ℕ, List}
 use Rattle.std.proofs.lemmas.List.{drop-drop}
 use Rattle.span_seq.specs.Sequence.{bytes}
+use Rattle.relay_engine.proofs.CleanLemmas.{clean_behind}
 use Rattle.relay_engine.proofs.FrameLemmas.{passes_nothing}
 use Rattle.relay_engine.proofs.GatherLemmas.{on_err, puts_nothing}
 use Rattle.relay_engine.proofs.WriteLemmas.{drained, interrupted_behind, interrupted_within, one_more}
@@ -13,6 +14,7 @@ loop-payload-init g c = record {
   rest = refl;
   within = c.requires.within;
   searched = c.requires.searched;
+  clean = λ some. absurd (omega (arith, some));
   passes = passes_nothing c.args.job.now (bytes c.args.lent.now) c.args.at_end;
   puts = puts_nothing _ _;
   counted = refl;
@@ -36,6 +38,7 @@ loop-payload-preserved g c =
       rest = c.without_front-rest.ensures.bytes ∙ ap (λ (xs : List ℕ). drop c.in-Ok.len xs) so_far.rest ∙ drop-drop c.in-Ok.len c.loop-payload.passed (bytes c.args.lent.now);
       within = omega arith;
       searched = λ line. refl;
+      clean = c.clean_behind-clean.ensures;
       passes = more.passes;
       puts = more.puts;
       counted = more.counted;
@@ -55,3 +58,8 @@ returns-in-Err-clause-drained g c =
     let puts = rw c.requires.begun at so_far.puts in
     let out = c.in_ok-write_out-in-Err.ensures in
     drained c.args.job.now (bytes c.args.lent.now) c.args.at_end _ _ _ _ _ c.loop-payload.passed c.loop-payload.frames c.loop-payload.written c.in-Err.stop so_far.text so_far.passes puts so_far.counted out.put out.none stopped
+
+pub clean_behind-clean-requires : goal.clean_behind-clean-requires
+clean_behind-clean-requires g c =
+    let rest = c.without_front-rest.ensures.bytes in
+    λ less. rw rest (clean_behind c.args.job.now (bytes c.loop-payload.rest) c.loop-payload.clean c.in-Ok.len less c.loop-payload.invariant.clean)
