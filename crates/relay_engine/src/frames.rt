@@ -1,6 +1,6 @@
 //! The whole frames of some bytes, written as the output spells them.
 
-ghost use Rattle.std.specs.Prelude.{◌≡◌, ◌+◌, ◌<◌, ◌≤◌, ◌^◌, [], length, position, slice_range, take, ◌-◌, IsNone, IfOk, IfErr, OnErr};
+ghost use Rattle.std.specs.Prelude.{◌≡◌, ◌+◌, ◌<◌, ◌≤◌, ◌^◌, [], true, length, position, slice_range, take, ◌-◌, IsNone, IfOk, IfErr, OnErr};
 ghost use Rattle.frame_model.specs.Spelling.{is_line_feed, obstacle, spelling};
 ghost use Rattle.frame_model.specs.Translation.{translation};
 ghost use Rattle.span_seq.specs.Sequence.{bytes};
@@ -145,6 +145,13 @@ fn clean_behind<C: Spans>(job: &Job, rest: &Sequence<'_, C>, clean: u64, len: u6
     clean_front(job, rest)
 }
 
+/// Whether lines come in and go out. A payload ends before the first line feed then, and needs no search of its own.
+fn lines_stay_lines(job: &Job) -> bool
+    ensures { result ≡ true → (job.now.input ≡ Framing.Line) × (job.now.output ≡ Framing.Line) }
+{
+    matches!((job.input, job.output), (Framing::Line, Framing::Line))
+}
+
 /// The payload of the first frame, where there is one that can be spelt, with the frame's length. Else why there is none.
 /// The first `clean` bytes can stand in any payload.
 #[inline(always)]
@@ -165,6 +172,9 @@ fn first_frame<'a, C: Spans>(
         Cut::Frame { from, to, end } => {
             let payload = part(rest, from, to);
             if to < clean {
+                return Ok((payload, end));
+            }
+            if lines_stay_lines(job) {
                 return Ok((payload, end));
             }
             match can_spell(job.output, &payload) {
