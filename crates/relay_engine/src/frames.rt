@@ -92,6 +92,7 @@ pub fn write_frames<C: Spans, K: Sink>(
     let mut rest = *lent;
     let mut known = known;
     let mut clean = 0;
+    let mut again = true;
     let mut passed = 0;
     let mut frames = 0;
     let mut written: u64 = 0;
@@ -101,7 +102,9 @@ pub fn write_frames<C: Spans, K: Sink>(
                 let more = put_frame(job.output, &payload, gathering, sink)?;
                 rest = rest.without_front(len);
                 known = 0;
-                clean = clean_behind(job, &rest, clean, len);
+                let within = len < clean;
+                clean = clean_behind(job, &rest, clean, len, again);
+                again = within;
                 passed += len;
                 frames += 1;
                 written = written.saturating_add(more);
@@ -134,13 +137,23 @@ fn clean_front<C: Spans>(job: &Job, seq: &Sequence<'_, C>) -> u64
     }
 }
 
-/// The same behind the first `len` bytes, where `rest` is what stands there.
-fn clean_behind<C: Spans>(job: &Job, rest: &Sequence<'_, C>, clean: u64, len: u64) -> u64
+/// The same behind the first `len` bytes, where `rest` is what stands there. Bytes that are not among the first `clean` are
+/// searched only where `again` says that it pays: where heads have line feeds, a search may spare none.
+fn clean_behind<C: Spans>(
+    job: &Job,
+    rest: &Sequence<'_, C>,
+    clean: u64,
+    len: u64,
+    again: bool,
+) -> u64
     requires { len < clean → IsClean job.now (clean - len) (bytes rest.now) }
     ensures { IsClean job.now result (bytes rest.now) }
 {
     if len < clean {
         return clean - len;
+    }
+    if !again {
+        return 0;
     }
     clean_front(job, rest)
 }
