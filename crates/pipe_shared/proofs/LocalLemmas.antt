@@ -73,6 +73,7 @@ still_local options p q granted call answer l a less = record {
   resume = a.resume ∙ l.resume;
   room = a.capacity ∙ l.room;
   within = omega (arith, l.within, a.capacity, less);
+  segment = l.segment;
 }
 
 pub local_flush : (options : Options) (p q : Pipe) (granted : ℕ) (answer : Answer) → IsLocal options p granted → PipeAnswers p (Commit (runs_of p.bytes.draft)) answer q → q.bytes.draft ≡ [] → IsLocal options q granted
@@ -121,6 +122,7 @@ local_end_writer options p q granted calls wake l a = record {
   resume = a.resume ∙ l.resume;
   room = a.capacity ∙ l.room;
   within = omega arith;
+  segment = l.segment;
 }
 
 pub granted_len : (options : Options) (p : Pipe) (granted : ℕ) → IsLocal options p granted → length (take granted p.bytes.free) ≡ granted

@@ -37,6 +37,7 @@ pub record IsLocal (options : Options) (p : Pipe) (granted : ℕ) : Type 0 where
   pub resume : p.control.resume ≡ options.resume
   pub room : capacity_of p.bytes ≡ room_of options
   pub within : granted ≤ length p.bytes.free
+  pub segment : 1 ≤ options.segment
 
 -- It stands for a history, of which each call was made from its own seat: the writer's calls have the number 0, and the reader's the number 1.
 pub record LocalKeeps (p : Local) (history : List (ℕ × Call)) : Type 0 where

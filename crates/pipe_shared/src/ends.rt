@@ -63,8 +63,9 @@ impl WriterEnd {
         self.draft.draft_len() as u64
     }
 
-    // Waits for the reader.
-    pub(crate) fn wait<R: Wait>(&self, rt: &R, attempts: &mut Attempts) {
+    /// Waits for the reader, behind a call that was answered Pending or Full: some turns of the processor at first, and then
+    /// its thread sleeps until a call of the reader, or a cancellation, makes it ready. It may return without a cause.
+    pub fn wait<R: Wait>(&self, rt: &R, attempts: &mut Attempts) {
         attempts.wait_for_other(rt, &self.parker);
     }
 }
@@ -104,8 +105,9 @@ impl ReaderEnd {
         self.lend.lent()
     }
 
-    // Waits for the writer.
-    pub(crate) fn wait<R: Wait>(&self, rt: &R, attempts: &mut Attempts) {
+    /// Waits for the writer, behind a read that was answered Pending: some turns of the processor at first, and then its
+    /// thread sleeps until a call of the writer, or a cancellation, makes it ready. It may return without a cause.
+    pub fn wait<R: Wait>(&self, rt: &R, attempts: &mut Attempts) {
         attempts.wait_for_other(rt, &self.parker);
     }
 }

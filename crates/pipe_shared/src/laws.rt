@@ -1,6 +1,6 @@
 //! What the calls of an end say of the histories that it has seen. These functions do nothing: what they ensure is the law.
 
-ghost use Rattle.std.specs.Prelude.{ℕ, List};
+ghost use Rattle.std.specs.Prelude.{ℕ, ◌≤◌, List};
 ghost use Rattle.pipe_core.specs.declared.reply.Wake.{Wake};
 ghost use Rattle.pipe_core.specs.History.{Call};
 ghost use Rattle.pipe_core.specs.Answers.{Answer};
@@ -11,12 +11,31 @@ ghost use Rattle.pipe_shared.specs.Turns.{Makes, MakesLast, Refuses, Seat, Wins}
 ghost use Rattle.pipe_shared.specs.Ends.{IsEnd};
 ghost use Rattle.pipe_shared.specs.Heard.{CallsBehind, CompletesBehind, Hears};
 
-use crate::ends::{ReaderEnd, WriterEnd};
+use crate::ends::{ReaderEnd, WriterDone, WriterEnd};
+use crate::pipe::Pipe;
+
+impl Pipe {
+    /// A segment has at least one byte, so no room for one byte is TooLarge.
+    pub fn has_segments(&self)
+        ensures { 1 ≤ self.now.name.segment }
+    {
+        let _ = &self.options;
+    }
+}
 
 impl WriterEnd {
     /// A writer has the seat 0, and what it has made stands in what it has seen.
     pub fn has_the_writers_seat(&self)
         ensures { IsEnd 0 self.now.seat }
+    {
+        let _ = &self.seat;
+    }
+}
+
+impl WriterDone {
+    /// A writer that has completed has the seat 0 too.
+    pub fn has_the_writers_seat(&self)
+        ensures { IsEnd 0 self.now }
     {
         let _ = &self.seat;
     }

@@ -29,4 +29,5 @@ pub use faults::{FlushFault, LocalRoomFault, RoomFault, TryFault};
 pub use laws::others_are_heard_first;
 pub use local::LocalPipe;
 pub use options::{Field, MakeError, Options};
+pub use parking::Attempts;
 pub use pipe::{Closed, Made, Pipe};

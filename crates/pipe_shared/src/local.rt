@@ -76,6 +76,13 @@ impl LocalPipe {
         })
     }
 
+    /// A segment has at least one byte, so no room for one byte is TooLarge. This does nothing: what it ensures is the law.
+    pub fn has_segments(&self)
+        ensures { 1 ≤ self.now.options.segment }
+    {
+        let _ = &self.options;
+    }
+
     /// Grants a free part of at least `hint` bytes, and tells its length, as `Pipe::try_room` does.
     pub fn room(&mut self, hint: usize) -> Result<usize, LocalRoomFault>
         requires { IsNone self.old.pipe.control.ended }

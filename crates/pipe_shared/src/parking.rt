@@ -1,4 +1,4 @@
-//! How a call that is tried again waits between its attempts.
+//! How a caller waits between the attempts of a call that is tried again.
 
 use crossbeam_utils::Backoff;
 use crossbeam_utils::sync::Parker;
@@ -8,7 +8,8 @@ use std::sync::Wait;
 /// takes microseconds, which is longer than the other end takes for a segment of some KiB.
 const TRIES: u32 = 64;
 
-/// The attempts of one call so far.
+/// The attempts of one call so far. Who makes a try call again waits in between: for a turn where it was Busy, and for the other
+/// end, by `WriterEnd::wait` or `ReaderEnd::wait`, where it was Pending or Full.
 #[derive(Drop)]
 pub struct Attempts {
     backoff: Backoff,
@@ -16,6 +17,7 @@ pub struct Attempts {
 }
 
 impl Attempts {
+    /// No attempt yet.
     pub fn new() -> Attempts {
         Attempts {
             backoff: Backoff::new(),
@@ -23,13 +25,13 @@ impl Attempts {
         }
     }
 
-    // Waits for a turn, which is never held for long.
+    /// Waits for a turn, which is never held for long: its thread never sleeps for it.
     pub fn wait_for_turn(&self) {
         self.backoff.snooze();
     }
 
     // Waits for the other end.
-    pub fn wait_for_other<R: Wait>(&mut self, rt: &R, parker: &Parker) {
+    pub(crate) fn wait_for_other<R: Wait>(&mut self, rt: &R, parker: &Parker) {
         if self.waited < TRIES {
             self.waited += 1;
             self.backoff.snooze();

@@ -30,7 +30,7 @@ pub struct Pipe {
 
 // Clauses see which pipe it is, and its options as the name of its states.
 impl Model for Pipe {
-    ghost use Rattle.std.specs.Prelude.{◌≡◌};
+    ghost use Rattle.std.specs.Prelude.{◌≡◌, ◌≤◌};
     ghost use Rattle.turn_cell.specs.Seat.{CellState};
     ghost use Rattle.pipe_shared.specs.declared.options.Options.{Options};
 
@@ -38,7 +38,7 @@ impl Model for Pipe {
 
     ghost view = { λ p. p.cell };
 
-    ghost invariant = { λ p. (p.cell.seats ≡ 3) × (p.cell.name ≡ p.options) };
+    ghost invariant = { λ p. (p.cell.seats ≡ 3) × (p.cell.name ≡ p.options) × (1 ≤ p.options.segment) };
 }
 
 /// What a pipe has carried.
