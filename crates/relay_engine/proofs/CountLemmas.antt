@@ -1,16 +1,24 @@
 -- How many frames are whole in what was written.
-use Rattle.std.proofs.Common.{◌≡◌, ◌<◌, ◌≤◌, ◌+◌, ◌-◌, ℕ, zero, suc, Bool, true, false, List, [], ◌∷◌, ◌++◌, length, take, drop, refl, sym, ap, ◌∙◌, append-nil, arith, inl, inr}
-use Rattle.std.specs.Prelude.{nat_eq}
+use Rattle.std.proofs.Common.{◌≡◌, ◌<◌, ◌≤◌, ◌+◌, ◌-◌, ℕ, zero, suc, Bool, true, false, List, [], ◌∷◌, ◌++◌, length, take, drop, refl, sym, ap, ◌∙◌, append-nil, append_assoc, arith, inl, inr}
+use Rattle.std.specs.Prelude.{nat_eq, Some, None}
 use Rattle.std.specs.List.{starts_with}
+use Rattle.std.specs.Int.{w16, w32, to_be_bytes}
 use Rattle.std.proofs.lemmas.Bool.{cases_lt}
 use Rattle.std.proofs.lemmas.Bool.Decides.{Decides-eqb}
 use Rattle.std.proofs.lemmas.Slice.Eq.{starts_is}
 use Rattle.std.proofs.lemmas.Grind.{flat_map-append}
-use Rattle.std.proofs.lemmas.List.{length-append, take_all}
+use Rattle.std.proofs.lemmas.List.{length-append, take-append-le, take_all}
 use Rattle.std.proofs.Math.Seq.{take-append-add, take-append_seam}
+use mathlib.Core.List.{IsPrefix}
 use Rattle.frame_model.specs.declared.framing.Framing.{Framing}
-use Rattle.frame_model.specs.Spelling.{spelling, text}
+use Rattle.frame_model.specs.declared.framing.Framing.TheVariants.{Len4, Len2, Line}
+use Rattle.frame_model.specs.declared.job.Job.{Job}
+use Rattle.frame_model.specs.Spelling.{obstacle, spelling, text}
+use Rattle.frame_model.specs.Cut.{Front, Whole, Refused, Partial, front, frames, last_line}
+use Rattle.frame_model.specs.Translation.{spellable, translation}
 use Rattle.frame_model.specs.Ending.{frames_written}
+use Rattle.frame_model.proofs.FramesLemmas.{continues}
+use Rattle.relay_model.specs.Run.{frames_in, payloads_of}
 
 -- a text stands at the front of what begins with it
 begins : (s p rest : List ℕ) → s ≡ p ++ rest → starts_with nat_eq s p ≡ true
@@ -64,3 +72,73 @@ frames_before output payloads others next part short =
         let parts : text output (take m (payloads ++ next ∷ others)) ≡ text output payloads ++ (spelling output next ++ text output (take k others)) =
         ap (λ (ps : List (List ℕ)). text output ps) front ∙ flat_map-append (spelling output) payloads (next ∷ take k others) in
         omega (arith, short, ap length parts, length-append (text output payloads) part, length-append (text output payloads) (spelling output next ++ text output (take k others)), length-append (spelling output next) (text output (take k others)))
+
+-- ---- in a longer input
+
+-- a frame has a byte
+some_byte : (output : Framing) (p : List ℕ) → 0 < length (spelling output p)
+some_byte Len4 p = omega (arith, length-append (to_be_bytes w32 (length p)) (p ++ []))
+some_byte Len2 p = omega (arith, length-append (to_be_bytes w16 (length p)) (p ++ []))
+some_byte Line p = omega (arith, length-append p (10 ∷ []))
+
+-- the payloads of more that can be spelt begin with those of less
+spellable_more : (output : Framing) (ps qs : List (List ℕ)) → (more : List (List ℕ)) × (spellable output (ps ++ qs) ≡ spellable output ps ++ more)
+spellable_more output [] qs = (spellable output qs, refl)
+spellable_more output (p ∷ ps) qs =
+    (elim (obstacle output p) as (λ o. obstacle output p ≡ o → (more : List (List ℕ)) × (spellable output ((p ∷ ps) ++ qs) ≡ spellable output (p ∷ ps) ++ more)) [
+      | None ↦ λ e.
+          let rest = spellable_more output ps qs in
+          rw e (rest.0, ap (λ (x : List (List ℕ)). p ∷ x) rest.1)
+      | Some at ↦ λ e. rw e ([], refl)
+    ]) refl
+
+-- while more may come there is no last line
+no_last : (f : Framing) (v : Front) (rest : List ℕ) → last_line f v false rest ≡ []
+no_last Len4 v rest = refl
+no_last Len2 v rest = refl
+no_last Line (Whole p more) rest = refl
+no_last Line (Refused kind) rest = refl
+no_last Line Partial rest = refl
+
+payloads_more : (job : Job) (x z : List ℕ) (b : Bool) → (more : List (List ℕ)) × (payloads_of job (x ++ z) b ≡ payloads_of job x false ++ more)
+payloads_more job x z b =
+    let before = (frames job.input job.max x).0 in
+    let behind = (frames job.input job.max ((frames job.input job.max x).1 ++ z)).0 in
+    let last = last_line job.input (front job.input job.max (frames job.input job.max (x ++ z)).1) b (frames job.input job.max (x ++ z)).1 in
+    rw (no_last job.input (front job.input job.max (frames job.input job.max x).1) (frames job.input job.max x).1, append-nil before, (continues job.input job.max x z).payloads, append_assoc before behind last) (spellable_more job.output before (behind ++ last))
+
+-- what is written of some payloads has as many whole frames, whatever payloads are behind them
+frames_of_front : (output : Framing) (ps more : List (List ℕ)) (written : List ℕ) → IsPrefix written (text output ps) → frames_written output (ps ++ more) written (length (ps ++ more)) ≡ frames_written output ps written (length ps)
+frames_of_front output ps more written is_front = down (length (ps ++ more)) (omega (arith, length-append ps more)) (omega arith) ∙ same (length ps) (omega arith)
+  where
+    longer : (others : List (List ℕ)) (m : ℕ) → length ps < m → m ≤ length (ps ++ others) → length written < length (text output (take m (ps ++ others)))
+    longer [] m more within = absurd (omega (arith, more, within, length-append ps []))
+    longer (q ∷ others) m more within =
+        let k = m - length ps - 1 in
+        let at : m ≡ length ps + suc k = omega (arith, more) in
+        let front_is : take m (ps ++ q ∷ others) ≡ ps ++ q ∷ take k others =
+        ap (λ (i : ℕ). take i (ps ++ q ∷ others)) at ∙ take-append-add ps (q ∷ others) (suc k) in
+        let parts : text output (take m (ps ++ q ∷ others)) ≡ text output ps ++ (spelling output q ++ text output (take k others)) =
+        ap (λ (xs : List (List ℕ)). text output xs) front_is ∙ flat_map-append (spelling output) ps (q ∷ take k others) in
+        omega (arith, some_byte output q, ap length is_front.1, length-append written is_front.0, ap length parts, length-append (text output ps) (spelling output q ++ text output (take k others)), length-append (spelling output q) (text output (take k others)))
+
+    down : (m : ℕ) → length ps ≤ m → m ≤ length (ps ++ more) → frames_written output (ps ++ more) written m ≡ frames_written output (ps ++ more) written (length ps)
+    down zero least within =
+        let none : 0 ≡ length ps = omega (arith, least) in
+        ap (λ (n : ℕ). frames_written output (ps ++ more) written n) none
+    down (suc m) least within = elim (cases_lt (length ps) (suc m)) [
+      | inl lt ↦ rw (too_short written (text output (take (suc m) (ps ++ more))) (longer more (suc m) lt within)) (down m (omega (arith, lt)) (omega (arith, within)))
+      | inr ge ↦
+          let last : suc m ≡ length ps = omega (arith, ge, least) in
+          ap (λ (n : ℕ). frames_written output (ps ++ more) written n) last
+    ]
+
+    same : (m : ℕ) → m ≤ length ps → frames_written output (ps ++ more) written m ≡ frames_written output ps written m
+    same zero within = refl
+    same (suc m) within = rw (take-append-le (suc m) ps more within, same m (omega (arith, within))) refl
+
+-- a front of what is to be written of an input has as many whole frames once more has come
+pub frames_of_more : (job : Job) (x z text : List ℕ) (b : Bool) → IsPrefix text (translation job x false).text → frames_in job (x ++ z) b text ≡ frames_in job x false text
+frames_of_more job x z text b front =
+    let more = payloads_more job x z b in
+    rw more.1 (frames_of_front job.output (payloads_of job x false) more.0 text front)

@@ -9,16 +9,14 @@ use Rattle.std.proofs.lemmas.Bool.{cases_lt}
 use Rattle.std.proofs.lemmas.List.{length-append, length-drop, length-take, take-append-drop, drop-append-le, drop-drop, take-append-le, take_all}
 use Rattle.frame_model.specs.declared.framing.Framing.{Framing}
 use Rattle.frame_model.specs.declared.framing.Framing.TheVariants.{Len4, Len2, Line}
-use Rattle.frame_model.specs.declared.framing.BadKind.{BadKind}
 use Rattle.frame_model.specs.declared.job.Job.{Job}
 use Rattle.frame_model.specs.Spelling.{is_line_feed, spelling, text as text_of}
-use Rattle.frame_model.specs.Cut.{Verdict, Open, End, Rest, Bad, moved}
+use Rattle.frame_model.specs.Cut.{Verdict, Open, Rest, Bad, moved}
 use Rattle.frame_model.specs.Translation.{translation, behind}
 use Rattle.frame_model.specs.Ending.{frames_written}
-use Rattle.frame_model.proofs.EndLemmas.{no_end, no_rest, not_open}
+use Rattle.frame_model.proofs.EndLemmas.{not_open}
 use Rattle.frame_model.proofs.FrameLemmas.{spelling_len}
 use Rattle.relay_model.specs.Run.{frames_in, payloads_of}
-use Rattle.pipe_core.specs.declared.reply.ReadReply.{ReadReply}
 use Rattle.pipe_core.specs.declared.reply.ReadReply.TheVariants as read
 use Rattle.pipe_core.specs.History.{Call, Run, Commit, EndWriter, Read, Advance, EndReader, CancelRead, CancelFlush, bytes_of, reader_end, writer_end}
 use Rattle.pipe_core.specs.Progress.{total, consumed, examined, held, canceled_read}
@@ -28,13 +26,12 @@ use Rattle.pipe_core.specs.Legal.{IsLegal, seat_of}
 use Rattle.span_seq.proofs.ScanLemmas.{at_none, position_past, stopped}
 use Rattle.std.proofs.lemmas.List.Sums.{prefix_len-le-length}
 use Rattle.pipe_core.proofs.OrderLemmas.{ordered, seen_all, total_commit}
-use Rattle.relay_engine.specs.Frames.{Passes, StopsAt, capped, verdict_of}
-use Rattle.relay_engine.specs.Drainer.{DrainState, Ends, Fails, IsAsked, IsDrained, Passed, Rests, end_code, is_success, is_whole, looked_at, translated}
-use Rattle.relay_engine.specs.Drainer.{verdict_of as is_verdict_of}
+use Rattle.edge_core.specs.Device.{SinkState}
+use Rattle.relay_engine.specs.Frames.{Breaks, Drains, Passes, StopsAt, capped, verdict_of}
+use Rattle.relay_engine.specs.declared.frames.Drained.{Drained}
+use Rattle.relay_engine.specs.declared.frames.Broken.{Broken}
+use Rattle.relay_engine.specs.Drainer.{DrainState, IsDrained, is_success, is_whole, looked_at, translated}
 use Rattle.relay_engine.specs.Passing.{IsKnown, added, end_at}
-use Rattle.relay_engine.specs.declared.drainer.DrainEnd.{DrainEnd}
-use Rattle.relay_engine.specs.declared.drainer.DrainEnd.TheVariants as ends
-use Rattle.relay_engine.specs.declared.drainer.DrainStep.TheVariants.{Done}
 use Rattle.relay_engine.specs.declared.frames.Stop.{Stop}
 use Rattle.relay_engine.specs.declared.frames.Stop.TheVariants as stops
 use Rattle.relay_engine.proofs.FrameLemmas.{may_stop, passed_text, passes_more}
@@ -203,27 +200,12 @@ legal_total h legal = (ordered h legal).total_in
 place_is : (d : DrainState) (h : List Call) (text gain : List ℕ) (at_end : Bool) (n i w r : ℕ) → IsLegal h → Passes d.job (total h) at_end (d.place + n) (d.frames + i) (text ++ gain) → (added d n i w r).place ≡ d.place + n
 place_is d h text gain at_end n i w r legal passes = capped_small (d.place + n) (omega (arith, passes.within, legal_total h legal))
 
-frames_are : (d : DrainState) (h : List Call) (text gain : List ℕ) (at_end : Bool) (n i w r : ℕ) → IsLegal h → Passes d.job (total h) at_end (d.place + n) (d.frames + i) (text ++ gain) → (added d n i w r).frames ≡ d.frames + i
+pub frames_are : (d : DrainState) (h : List Call) (text gain : List ℕ) (at_end : Bool) (n i w r : ℕ) → IsLegal h → Passes d.job (total h) at_end (d.place + n) (d.frames + i) (text ++ gain) → (added d n i w r).frames ≡ d.frames + i
 frames_are d h text gain at_end n i w r legal passes = capped_small (d.frames + i) (omega (arith, passes.few, passes.within, legal_total h legal))
 
 passes_at : (job : Job) (x text : List ℕ) (at_end : Bool) (n n' i i' : ℕ) → n' ≡ n → i' ≡ i → Passes job x at_end n i text → Passes job x at_end n' i' text
 passes_at job x text at_end n n' i i' same_n same_i passes =
     subst (λ (k : ℕ). Passes job x at_end k i' text) (sym same_n) (subst (λ (k : ℕ). Passes job x at_end n k text) (sym same_i) passes)
-
-pub rests : (d : DrainState) (h : List Call) (text : List ℕ) (n : ℕ) → IsLegal h → reply_to_read h ≡ read.Pending n → IsDrained d h text → Rests d h text [] (Read ∷ []) d
-rests d h text n legal reply drained =
-    let seen = pending_says h n legal reply in
-    let all : looked_at h ≡ total h = take_all (examined h) (total h) (omega (arith, seen)) in
-    record {
-      calls_are = refl;
-      none = refl;
-      drainer = refl;
-      all_seen = seen;
-      drained = record { place = drained.place; passes = drained.passes; rest = drained.rest; short = drained.short; counted = drained.counted; known = drained.known; unended = drained.unended };
-      whole =
-          sym (ap (λ t. t.text) (said_all d.job (looked_at h) text false d.place d.frames stops.More drained.passes drained.rest))
-          ∙ ap (λ (x : List ℕ). (translation d.job x false).text) all;
-    }
 
 -- what was written of a lend, and why no more was
 pub record Wrote (job : Job) (x : List ℕ) (at_end : Bool) (n i w : ℕ) (stop : Stop) (text : List ℕ) : Type 0 where
@@ -233,7 +215,7 @@ pub record Wrote (job : Job) (x : List ℕ) (at_end : Bool) (n i w : ℕ) (stop 
 
 -- the frames of a lend behind which more is wanted
 pub passed_on : (d : DrainState) (h : List Call) (text gain : List ℕ) (n i w r : ℕ) → r ≡ length (held h) - n → IsLegal h → IsDrained d h text → Wrote d.job (held h) false n i w stops.More gain
-    → Passed d h text gain (Advance n (length (held h)) ∷ Read ∷ []) (added d n i w r) i
+    → IsDrained (added d n i w r) (Advance n (length (held h)) ∷ Read ∷ h) (text ++ gain)
 passed_on d h text gain n i w r left legal drained drains =
     let len = length (held h) in
     let all = text ++ gain in
@@ -246,21 +228,13 @@ passed_on d h text gain n i w r left legal drained drains =
     let rest : drop (added d n i w r).place (take (max (examined h) (consumed h + len)) (total h)) ≡ drop (d.place + n) (total h) = ap (λ (k : ℕ). drop k (take (max (examined h) (consumed h + len)) (total h))) place ∙ ap (λ (x : List ℕ). drop (d.place + n) x) seen in
     let behind_it : drop (d.place + n) (total h) ≡ drop n (held h) = sym (ap (λ (x : List ℕ). drop n x) (rest_of d h text drained) ∙ drop-drop n d.place (total h)) in
     record {
-      len = len;
-      passed = n;
-      calls_are = refl;
-      lent = whole;
-      drained = record {
-        place = place ∙ ap (λ (k : ℕ). k + n) drained.place;
-        passes = subst (λ (x : List ℕ). Passes d.job x false (added d n i w r).place (added d n i w r).frames all) (sym seen) (passes_at d.job (total h) all false (d.place + n) (added d n i w r).place (d.frames + i) (added d n i w r).frames place frames passes);
-        rest = ap (λ (x : List ℕ). translation d.job x false) rest ∙ told;
-        short = omega (arith, ap length (rest ∙ behind_it), drains.stopped.short refl);
-        counted = capped_sum text gain d.written w drained.counted drains.counted;
-        known = omega (arith, left, ap length (rest ∙ behind_it), length-drop n (held h));
-        unended = λ line. subst (λ (x : List ℕ). IsNone (position is_line_feed x)) (sym (rest ∙ behind_it)) (drains.stopped.unended refl line);
-      };
-      counted = frames;
-      whole = sym (ap (λ t. t.text) (said_all d.job (total h) all false (d.place + n) (d.frames + i) stops.More passes told));
+      place = place ∙ ap (λ (k : ℕ). k + n) drained.place;
+      passes = subst (λ (x : List ℕ). Passes d.job x false (added d n i w r).place (added d n i w r).frames all) (sym seen) (passes_at d.job (total h) all false (d.place + n) (added d n i w r).place (d.frames + i) (added d n i w r).frames place frames passes);
+      rest = ap (λ (x : List ℕ). translation d.job x false) rest ∙ told;
+      short = omega (arith, ap length (rest ∙ behind_it), drains.stopped.short refl);
+      counted = capped_sum text gain d.written w drained.counted drains.counted;
+      known = omega (arith, left, ap length (rest ∙ behind_it), length-drop n (held h));
+      unended = λ line. subst (λ (x : List ℕ). IsNone (position is_line_feed x)) (sym (rest ∙ behind_it)) (drains.stopped.unended refl line);
     }
 
 -- ---- an end
@@ -272,54 +246,24 @@ success_is (Some code) yes_so = ap (λ (k : ℕ). Some k) ((Decides-eqb code 0).
 failure_is : (code : ℕ) → is_success (Some code) ≡ false → code ≢ 0
 failure_is code not_so zero_code = let same = (Decides-eqb code 0).1 zero_code in let both = rw same at not_so in absurd cc
 
--- an end comes with its verdict, and with the writer's code that it wants
-pub record EndsSo (job : Job) (ended : Option ℕ) (place : ℕ) (stop : Stop) (end : DrainEnd) : Type 0 where
-  pub verdict : is_verdict_of end (verdict_of stop place)
-  pub asked : (canceled : Bool) (len : ℕ) (reply : ReadReply) → reply ≡ read.Ready canceled ended len → IsAsked (Done end) reply
-
 bool_cases : (b : Bool) → (b ≡ true) ⊎ (b ≡ false)
 bool_cases true = inl refl
 bool_cases false = inr refl
 
-some_is : {A : Type 0} (a b : A) → Some a ≡ Some b → a ≡ b
+pub some_is : {A : Type 0} (a b : A) → Some a ≡ Some b → a ≡ b
 some_is a b e = ap (λ o. unwrap_or o a) e
 
-bad_so : (job : Job) (ended : Option ℕ) (place : ℕ) (kind : BadKind) → EndsSo job ended place (stops.Bad kind) (ends.Bad place kind)
-bad_so job ended place kind = record { verdict = refl; asked = λ canceled len reply is. (canceled, ended, len, is) }
-
-at_end_so : (job : Job) (ended : Option ℕ) (rest : List ℕ) (v : Verdict) → translation job rest (is_success ended) ≡ record { text = []; verdict = v } → ((translation job rest false).verdict ≢ v) → ended ≡ Some 0
+pub at_end_so : (job : Job) (ended : Option ℕ) (rest : List ℕ) (v : Verdict) → translation job rest (is_success ended) ≡ record { text = []; verdict = v } → ((translation job rest false).verdict ≢ v) → ended ≡ Some 0
 at_end_so job ended rest v told never = elim (bool_cases (is_success ended)) [
   | inl whole ↦ success_is ended whole
   | inr part ↦ absurd (never (ap (λ t. t.verdict) (sym (ap (λ (b : Bool). translation job rest b) part) ∙ told)))
 ]
 
-open_so : (job : Job) (code : ℕ) (rest : List ℕ) → translation job rest (is_success (Some code)) ≡ record { text = []; verdict = Open } → code ≢ 0
+pub open_so : (job : Job) (code : ℕ) (rest : List ℕ) → translation job rest (is_success (Some code)) ≡ record { text = []; verdict = Open } → code ≢ 0
 open_so job code rest told = elim (bool_cases (is_success (Some code))) [
   | inl whole ↦ absurd (not_open job rest (ap (λ t. t.verdict) (sym (ap (λ (b : Bool). translation job rest b) whole) ∙ told)))
   | inr part ↦ failure_is code part
 ]
-
-pub ends_so : (job : Job) (ended : Option ℕ) (place : ℕ) (stop : Stop) (end : DrainEnd) (rest : List ℕ) → translation job rest (is_success ended) ≡ record { text = []; verdict = verdict_of stop 0 } → end_at stop ended place ≡ Some end → EndsSo job ended place stop end
-ends_so job ended place (stops.Bad kind) end rest told at = subst (λ (e : DrainEnd). EndsSo job ended place (stops.Bad kind) e) (some_is (ends.Bad place kind) end at) (bad_so job ended place kind)
-ends_so job ended place stops.Rest end rest told at =
-    let success = at_end_so job ended rest (Rest 0) told (no_rest job rest 0) in
-    subst (λ (e : DrainEnd). EndsSo job ended place stops.Rest e) (some_is (ends.Rest place) end at) (record {
-      verdict = refl;
-      asked = λ canceled len reply is. (canceled, len, is ∙ ap (λ (o : Option ℕ). read.Ready canceled o len) success);
-    })
-ends_so job ended place stops.End end rest told at =
-    let success = at_end_so job ended rest End told (no_end job rest) in
-    subst (λ (e : DrainEnd). EndsSo job ended place stops.End e) (some_is ends.Clean end at) (record {
-      verdict = refl;
-      asked = λ canceled len reply is. (canceled, len, is ∙ ap (λ (o : Option ℕ). read.Ready canceled o len) success);
-    })
-ends_so job (Some code) place stops.More end rest told at =
-    let failure = open_so job code rest told in
-    subst (λ (e : DrainEnd). EndsSo job (Some code) place stops.More e) (some_is ends.Stopped end at) (record {
-      verdict = refl;
-      asked = λ canceled len reply is. (canceled, code, len, failure, is);
-    })
-ends_so job None place stops.More end rest told at = absurd cc
 
 -- where nothing ends, more is wanted, and the writer goes on
 pub goes_on_so : (stop : Stop) (ended : Option ℕ) (place : ℕ) → end_at stop ended place ≡ None → (stop ≡ stops.More) × (ended ≡ None)
@@ -352,41 +296,6 @@ end_facts d h text gain n i w r stop legal drained wrote =
       written = capped_sum text gain d.written w drained.counted wrote.counted;
     }
 
-pub ended : (d : DrainState) (h : List Call) (text gain : List ℕ) (n i w r : ℕ) (stop : Stop) (end : DrainEnd) → IsLegal h → EndFacts d h text gain n i w r stop → is_verdict_of end (verdict_of stop (added d n i w r).place)
-    → Ends d h text gain (EndReader (end_code end) ∷ Advance n (length (held h)) ∷ Read ∷ []) (added d n i w r) end
-ended d h text gain n i w r stop end legal facts verdict = record {
-  len = length (held h);
-  passed = n;
-  calls_are = refl;
-  lent = held_is h legal;
-  place = facts.place;
-  passes = facts.passes;
-  whole = sym (ap (λ t. t.text) facts.said);
-  verdict = subst (λ (v : Verdict). is_verdict_of end v) (sym (ap (λ t. t.verdict) facts.said)) verdict;
-  frames = facts.frames;
-  written = facts.written;
-}
-
-pub flush_failed : (d : DrainState) (h : List Call) (text gain : List ℕ) (n i w r : ℕ) (stop : Stop) → IsLegal h → EndFacts d h text gain n i w r stop
-    → Fails d h text gain (EndReader 5 ∷ Advance n (length (held h)) ∷ Read ∷ []) (added d n i w r)
-flush_failed d h text gain n i w r stop legal facts = record {
-  before = Advance n (length (held h)) ∷ [];
-  calls_are = refl;
-  how = inr (record {
-    len = length (held h);
-    passed = n;
-    advanced = refl;
-    lent = held_is h legal;
-    place = facts.place;
-    passes = facts.passes;
-    whole = sym (ap (λ t. t.text) facts.said);
-  });
-  front = ([], append-nil (text ++ gain) ∙ sym (ap (λ t. t.text) facts.said));
-  bounded = omega (arith, facts.passes.bounded, facts.passes.within);
-  frames = facts.frames;
-  written = facts.written;
-}
-
 -- a frame of the lend was broken off
 pub record Broke (job : Job) (x : List ℕ) (at_end : Bool) (i w : ℕ) (gain : List ℕ) : Type 0 where
   pub len : ℕ
@@ -402,8 +311,15 @@ pub record Broke (job : Job) (x : List ℕ) (at_end : Bool) (i w : ℕ) (gain : 
   pub counted : w ≡ capped (length gain)
   pub bounded : length gain ≤ 5 * length x
 
+-- What was written is a front of what was to be, and is counted.
+pub record FrontWritten (d : DrainState) (h : List Call) (text : List ℕ) (d' : DrainState) : Type 0 where
+  pub front : IsPrefix text (translated d.job h).text
+  pub bounded : length text ≤ 5 * length (total h)
+  pub frames : d'.frames ≡ frames_in d.job (total h) (is_whole h) text
+  pub written : d'.written ≡ capped (length text)
+
 pub write_failed : (d : DrainState) (h : List Call) (text gain : List ℕ) (i w : ℕ) → IsLegal h → IsDrained d h text → Broke d.job (held h) (is_whole h) i w gain
-    → Fails d h text gain (EndReader 5 ∷ Read ∷ []) (added d 0 i w d.known)
+    → FrontWritten d h (text ++ gain) (added d 0 i w d.known)
 write_failed d h text gain i w legal drained broke =
     let at_end = is_whole h in
     let passes = passed_all d h text broke.text at_end broke.len i drained broke.passes in
@@ -412,9 +328,6 @@ write_failed d h text gain i w legal drained broke =
     let behind_it : drop broke.len (held h) ≡ drop (d.place + broke.len) (total h) = ap (λ (x : List ℕ). drop broke.len x) (rest_of d h text drained) ∙ drop-drop broke.len d.place (total h) in
     let stands : payloads_of d.job (drop (d.place + broke.len) (total h)) at_end ≡ broke.next ∷ broke.others = ap (λ (x : List ℕ). payloads_of d.job x at_end) (sym behind_it) ∙ broke.stands_next in
     record {
-      before = [];
-      calls_are = refl;
-      how = inl refl;
       front = subst (λ (t : List ℕ). IsPrefix t (translated d.job h).text) (sym all) (front_partial d.job (total h) (text ++ broke.text) at_end (d.place + broke.len) (d.frames + i) broke.next broke.part broke.others passes stands broke.is_part);
       bounded = omega (arith, drained_bounded, broke.bounded, length-append text gain, held_is h legal, drained.place);
       frames =
@@ -423,6 +336,33 @@ write_failed d h text gain i w legal drained broke =
           ∙ ap (λ (t : List ℕ). frames_in d.job (total h) at_end t) (sym all);
       written = capped_sum text gain d.written w drained.counted broke.counted;
     }
+
+pub wrote_all : (job : Job) (lent x : List ℕ) (ended ended' : Option ℕ) (a b : SinkState) (drained : Drained) → lent ≡ x → ended ≡ ended' → (drains : Drains job lent (is_success ended) a drained b)
+    → Wrote job x (is_success ended') drained.passed drained.frames drained.written drained.stop drains.text
+wrote_all job lent x ended ended' a b drained same code drains =
+    subst (λ (y : List ℕ). Wrote job y (is_success ended') drained.passed drained.frames drained.written drained.stop drains.text) same
+    (subst (λ (o : Option ℕ). Wrote job lent (is_success o) drained.passed drained.frames drained.written drained.stop drains.text) code
+    (record { passes = drains.passes; counted = drains.counted; stopped = drains.stopped }))
+
+pub broke_off : (job : Job) (lent x : List ℕ) (ended ended' : Option ℕ) (a b : SinkState) (broken : Broken) → lent ≡ x → ended ≡ ended' → (breaks : Breaks job lent (is_success ended) a broken b)
+    → Broke job x (is_success ended') broken.frames broken.written (breaks.text ++ breaks.part)
+broke_off job lent x ended ended' a b broken same code breaks =
+    subst (λ (y : List ℕ). Broke job y (is_success ended') broken.frames broken.written (breaks.text ++ breaks.part)) same
+    (subst (λ (o : Option ℕ). Broke job lent (is_success o) broken.frames broken.written (breaks.text ++ breaks.part)) code
+    (record {
+      len = breaks.len;
+      text = breaks.text;
+      passes = breaks.passes;
+      next = breaks.next;
+      others = breaks.others;
+      stands_next = breaks.stands_next;
+      part = breaks.part;
+      is_part = breaks.is_part;
+      short = breaks.short;
+      all = refl;
+      counted = breaks.counted;
+      bounded = breaks.bounded;
+    }))
 
 -- ---- between the steps
 
@@ -440,7 +380,7 @@ behind_commit d h text runs legal drained =
       unended = λ line. subst (λ (x : List ℕ). IsNone (position is_line_feed (drop d.place x))) (sym same) (drained.unended line);
     }
 
-behind_call : (d : DrainState) (h : List Call) (text : List ℕ) (call : Call) → seat_of call ≢ 1 → IsLegal h → IsDrained d h text → IsDrained d (call ∷ h) text
+pub behind_call : (d : DrainState) (h : List Call) (text : List ℕ) (call : Call) → seat_of call ≢ 1 → IsLegal h → IsDrained d h text → IsDrained d (call ∷ h) text
 behind_call d h text (Commit runs) other legal drained = behind_commit d h text runs legal drained
 behind_call d h text (EndWriter code) other legal drained = record { place = drained.place; passes = drained.passes; rest = drained.rest; short = drained.short; counted = drained.counted; known = drained.known; unended = drained.unended }
 behind_call d h text Read other legal drained = absurd (other refl)

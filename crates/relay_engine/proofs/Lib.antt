@@ -1,14 +1,21 @@
 mod CleanLemmas
-mod CountLemmas
+pub mod CountLemmas
 mod DeviceLemmas
 mod DrainLemmas
-mod FillLemmas
+mod DrainedLemmas
+mod DrainingLemmas
+mod EndingLemmas
+mod FillSideLemmas
+mod FillingLemmas
 mod FrameLemmas
 mod GatherLemmas
-mod PlainLemmas
+mod PipeDrainerLemmas
+mod PipeFillerLemmas
 mod PumpEndLemmas
 mod PumpFillLemmas
 mod PumpLemmas
-mod StepLemmas
+mod ReaderEndLemmas
+pub mod ReportLemmas
 mod TellLemmas
 mod WriteLemmas
+mod WriterEndLemmas

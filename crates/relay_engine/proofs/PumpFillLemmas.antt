@@ -1,5 +1,6 @@
 -- A fill step of a relay whose pipe rests.
-use Rattle.std.proofs.Common.{◌≡◌, ◌≢◌, ◌≤◌, ◌+◌, ◌-◌, ◌*◌, ℕ, Bool, true, false, cond, if◌then◌else◌, nat_lt, List, [], ◌∷◌, ◌++◌, length, drop, Option, Some, None, refl, sym, ap, ◌∙◌, subst, append-nil, arith, inl, inr, ◌⊎◌}
+use Rattle.std.specs.List.{AllByRecursion}
+use Rattle.std.proofs.Common.{◌≡◌, ◌≢◌, ◌<◌, ◌≤◌, ◌+◌, ◌-◌, ◌*◌, ◌^◌, ℕ, Bool, true, false, cond, if◌then◌else◌, nat_lt, List, [], ◌∷◌, ◌++◌, length, drop, Option, Some, None, Ok, refl, sym, ap, ◌∙◌, subst, append-nil, arith, ◌⊎◌}
 use Rattle.std.specs.Prelude.{is_none, option_map, unwrap_or}
 use Rattle.std.proofs.KnownBytes.{Consumes-trans, Consumes-kept}
 use Rattle.std.proofs.lemmas.List.{length-append, take_all}
@@ -8,25 +9,31 @@ use Rattle.frame_model.specs.declared.job.Job.{Job}
 use Rattle.frame_model.specs.declared.ending.FillEnd.{FillEnd}
 use Rattle.frame_model.specs.declared.ending.FillEnd.TheVariants as taking
 use Rattle.frame_model.specs.Spelling.{longest_frame}
-use Rattle.pipe_core.specs.declared.reply.FlushReply.{FlushReply}
 use Rattle.pipe_core.specs.declared.reply.FlushReply.TheVariants as flush
 use Rattle.pipe_core.specs.declared.reply.ReadReply.TheVariants as read
-use Rattle.pipe_core.specs.History.{Call, Run, Commit, EndWriter, bytes_of, writer_end, reader_end}
+use Rattle.pipe_core.specs.declared.reply.Wake.{Wake}
+use Rattle.pipe_core.specs.History.{Call, Run, Commit, EndWriter, Read, Advance, EndReader, CancelRead, CancelFlush, bytes_of, writer_end, reader_end}
 use Rattle.pipe_core.specs.Progress.{total, examined, held}
 use Rattle.pipe_core.specs.Reads.{reply_to_read}
 use Rattle.pipe_core.specs.Flushes.{reply_to_commit}
 use Rattle.pipe_core.specs.Legal.{IsLegal}
-use Rattle.pipe_core.specs.Pipe.{Pipe, HoldsFor, runs_of}
-use Rattle.pipe_core.proofs.OrderLemmas.{total_commit}
-use Rattle.pipe_core.proofs.PipeLemmas.{bytes_of_runs}
-use Rattle.relay_engine.specs.Ends.{Shape, shape_of, writer_of}
-use Rattle.relay_engine.specs.Filler.{FillState, FillsOnce, Took, TookNone, asked, end_code}
+use Rattle.pipe_core.specs.Pipe.{HoldsFor, closing, runs_of}
+use Rattle.pipe_core.specs.Standing.{AreThresholds}
+use Rattle.pipe_core.proofs.OrderLemmas.{ordered, total_commit}
+use Rattle.pipe_shared.specs.declared.options.Options.{Options}
+use Rattle.pipe_shared.specs.Options.{room_of}
+use Rattle.pipe_shared.specs.Local.{IsFull, Local, LocalCompletes}
+use Rattle.relay_engine.specs.Filler.{written, end_code}
+use Rattle.relay_engine.specs.Filling.{FillingState, FillsOn, HasTaken, OrCommits, Replied}
+use Rattle.relay_engine.specs.WriterEnds.{IsLocalFull, local_drafting}
+use Rattle.relay_engine.specs.LocalEnds.{HoldsLocal, NoOthers, RefusesNone}
 use Rattle.relay_engine.specs.Drainer.{DrainState, looked_at}
-use Rattle.relay_engine.specs.Pump.{ended_by}
-use Rattle.relay_engine.specs.declared.filler.FillStep.{FillStep}
-use Rattle.relay_engine.specs.declared.filler.FillStep.TheVariants.{Moved, Paused, Full, Done}
+use Rattle.relay_engine.specs.Draining.{DrainingState}
+use Rattle.relay_engine.specs.Pump.{EndsBy, FillsLocal}
+use Rattle.relay_engine.specs.declared.filling.Filled.{Filled}
+use Rattle.relay_engine.specs.declared.filling.Filled.TheVariants.{Moved, Paused, Full, Ended}
 use Rattle.relay_engine.proofs.DrainLemmas.{behind_commit}
-use Rattle.relay_engine.proofs.PumpLemmas.{AtRest, Goes, HasTaken, Pumps, fuel, gone_says, none_left}
+use Rattle.relay_engine.proofs.PumpLemmas.{AtRest, Goes, Pumps, TakenSoFar, fuel, gone_says, later_same, none_left}
 
 -- ---- what the writer's calls leave to the reader
 
@@ -55,104 +62,146 @@ goes_end d h text code goes =
       uncanceled = goes.uncanceled;
     }
 
--- what is true behind the flush that was asked again
-pub record Asked (d : DrainState) (h h' : List Call) (text : List ℕ) : Type 0 where
-  pub goes : Goes d h' text
-  pub total_is : total h' ≡ total h
-  pub examined_is : examined h' ≡ examined h
-  pub ended_is : writer_end h' ≡ writer_end h
+-- what is true behind commits
+record Asked (d : DrainState) (h h' : List Call) (text : List ℕ) : Type 0 where
+  goes : Goes d h' text
+  examined_is : examined h' ≡ examined h
+  ended_is : writer_end h' ≡ writer_end h
 
-pub behind_asked : (d : DrainState) (h : List Call) (text : List ℕ) (owed : Bool) → IsLegal h → Goes d h text → Asked d h (asked owed ++ h) text
-behind_asked d h text false legal goes = record { goes = goes; total_is = refl; examined_is = refl; ended_is = refl }
-behind_asked d h text true legal goes =
-    let more = goes_commit d h text [] legal goes in
-    record { goes = more.0; total_is = more.1 ∙ append-nil (total h); examined_is = refl; ended_is = refl }
+behind_commits : (d : DrainState) (h : List Call) (text : List ℕ) (calls : List Call) → AllByRecursion (OrCommits NoOthers) calls → IsLegal (calls ++ h) → Goes d h text → Asked d h (calls ++ h) text
+behind_commits d h text [] all legal goes = record { goes = goes; examined_is = refl; ended_is = refl }
+behind_commits d h text (Commit runs ∷ calls) all legal goes =
+    let so = behind_commits d h text calls all.1 legal.0 goes in record { goes = (goes_commit d (calls ++ h) text runs legal.0 so.goes).0; examined_is = so.examined_is; ended_is = so.ended_is }
+behind_commits d h text (EndWriter code ∷ calls) all legal goes = absurd all.0
+behind_commits d h text (Read ∷ calls) all legal goes = absurd all.0
+behind_commits d h text (Advance c e ∷ calls) all legal goes = absurd all.0
+behind_commits d h text (EndReader code ∷ calls) all legal goes = absurd all.0
+behind_commits d h text (CancelRead ∷ calls) all legal goes = absurd all.0
+behind_commits d h text (CancelFlush ∷ calls) all legal goes = absurd all.0
 
--- the part of a lawful history is lawful
-legal_behind : (calls h : List Call) → IsLegal (calls ++ h) → IsLegal h
-legal_behind [] h legal = legal
-legal_behind (call ∷ calls) h legal = legal_behind calls h legal.0
+-- all that was taken is committed, and the drainer goes on behind it
+record Committed (d : DrainState) (h now : List Call) (text bytes : List ℕ) (middle : Local) : Type 0 where
+  holds : HoldsFor middle.pipe now
+  asked : Asked d h now text
+  all : total now ≡ bytes
+
+-- A fill step, of which the filler's part and the pipe behind it are told.
+abbrev pub Once : FillingState → Local → SourceState → Filled → FillingState → Local → SourceState → List Call → List ℕ → Type 0
+Once f p before filled f' middle after h bytes = FillsOn HoldsLocal NoOthers local_drafting RefusesNone p.options (IsLocalFull tt) f p before (Ok filled) f' middle after h bytes
+
+pub rest_taken : (job : Job) (sb s : SourceState) (kb k : SinkState) (f : FillingState) (d : DrainingState) (p : Local) (ending : Option FillEnd) → (rest : AtRest job sb s kb k f d p ending) → HasTaken HoldsLocal local_drafting f p rest.on.h (total rest.on.h)
+rest_taken job sb s kb k f d p ending rest = let on = rest.on in record {
+  stands = on.holds;
+  all = ap (λ (x : List ℕ). written on.h ++ x) on.draft ∙ append-nil (written on.h) ∙ on.goes.kept;
+  counted = on.counted;
+  drafted = on.drafted ∙ sym (ap length on.draft);
+  settled = λ none. on.draft;
+}
+
+committed : (job : Job) (sb s s' : SourceState) (kb k : SinkState) (f f' : FillingState) (d : DrainingState) (p middle : Local) (ending : Option FillEnd) (filled : Filled) → (rest : AtRest job sb s kb k f d p ending) → (once : Once f p s filled f' middle s' rest.on.h (total rest.on.h)) → middle.pipe.bytes.draft ≡ []
+    → Committed d.drained rest.on.h once.now rest.on.text (total rest.on.h ++ once.taken) middle
+committed job sb s s' kb k f f' d p middle ending filled rest once settled =
+    let on = rest.on in
+    let holds = once.holds.stands in
+    let legal = holds.marks.legal in
+    let a = subst (λ (x : List Call). Asked d.drained on.h x on.text) (sym once.later.is) (behind_commits d.drained on.h on.text once.later.between once.later.all (subst IsLegal once.later.is legal) on.goes) in
+    record {
+      holds = holds;
+      asked = a;
+      all = sym a.goes.kept ∙ sym (append-nil (written once.now)) ∙ sym (ap (λ (x : List ℕ). written once.now ++ x) settled) ∙ once.holds.all;
+    }
 
 -- ---- the steps
 
+pub record StepFilled (job : Job) (sb s' : SourceState) (kb k : SinkState) (f f' : FillingState) (d : DrainingState) (p' : Local) (result : Option FillEnd) : Type 0 where
+  pub on : Pumps job sb s' kb k f' d p' result
+  pub less : fuel f' p' result + 1 ≤ 2 * (f.limit - f.taken) + 1
+
+-- what a fill step keeps
+pub record Keeps (f : FillingState) (p : Local) (f' : FillingState) (p' : Local) : Type 0 where
+  pub options : p'.options ≡ p.options
+  pub draft : p'.pipe.bytes.draft ≡ []
+  pub limit : f'.limit ≡ f.limit
+  pub within : f'.taken ≤ f'.limit
+
 -- bytes were taken
-took_bytes : (job : Job) (sb s s' : SourceState) (kb k : SinkState) (f f' : FillState) (d : DrainState) (p p' : Pipe) (ending : Option FillEnd) (step : FillStep) (reply : FlushReply) → (rest : AtRest job sb s kb k f d p ending) → (once : FillsOnce HoldsFor writer_of f p s step f' p' s')
-    → Took f (shape_of p') rest.on.h s once.bytes once.calls [] s' reply → Pumps job sb s' kb k f' d p' None × (fuel f' p' None + 1 ≤ 2 * (f.limit - f.taken) + 1)
-took_bytes job sb s s' kb k f f' d p p' ending step reply rest once took =
+took_bytes : (job : Job) (sb s s' : SourceState) (kb k : SinkState) (f f' : FillingState) (d : DrainingState) (p middle : Local) (ending : Option FillEnd) (filled : Filled) → (rest : AtRest job sb s kb k f d p ending) → (once : Once f p s filled f' middle s' rest.on.h (total rest.on.h)) → Keeps f p f' middle
+    → Gives s once.taken s' → 0 < length once.taken → StepFilled job sb s' kb k f f' d middle None
+took_bytes job sb s s' kb k f f' d p middle ending filled rest once keeps given some =
     let on = rest.on in
     let h = on.h in
-    let before = asked f.owed ++ h in
-    let h' = Commit (runs_of once.bytes) ∷ before in
-    let same : once.calls ++ h ≡ h' = ap (λ (calls : List Call). calls ++ h) took.calls_are in
-    let holds = subst (λ (calls : List Call). HoldsFor p' calls) same (once.stands h on.holds) in
-    let a = behind_asked d h on.text f.owed on.holds.marks.legal on.goes in
-    let more = goes_commit d before on.text (runs_of once.bytes) holds.marks.legal.0 a.goes in
-    let all : total h' ≡ total h ++ once.bytes = more.1 ∙ ap (λ (x : List ℕ). x ++ bytes_of (runs_of once.bytes)) a.total_is ∙ ap (λ (x : List ℕ). total h ++ x) (bytes_of_runs once.bytes) in
-    let size : length (total h') ≡ length (total h) + length once.bytes = ap length all ∙ length-append (total h) once.bytes in
-    let taken = subst (λ (o : Option FillEnd). HasTaken job (total h) o sb s) rest.none_yet on.taken in (
-      record {
-        h = h';
+    let c = committed job sb s s' kb k f f' d p middle ending filled rest once keeps.draft in
+    let counted : f'.taken ≡ length (total once.now) = once.holds.counted ∙ sym (ap length c.all) in
+    let size : f'.taken ≡ f.taken + length once.taken = once.holds.counted ∙ length-append (total h) once.taken ∙ ap (λ (n : ℕ). n + length once.taken) (sym on.counted) in
+    let taken = subst (λ (o : Option FillEnd). TakenSoFar job (total h) o sb s) rest.none_yet on.taken in
+    record {
+      on = record {
+        h = once.now;
         text = on.text;
-        holds = holds;
-        goes = more.0;
+        holds = c.holds;
+        goes = c.asked.goes;
+        fresh = on.fresh;
         taken = (
-          subst (λ (x : List ℕ). Gives sb x s') (sym all) (record { given = Consumes-trans _ _ _ _ _ taken.0.given took.given.given; unfailed = took.given.unfailed ∙ taken.0.unfailed }),
-          omega (arith, size, once.within, once.counted, on.counted, on.limit),
+          subst (λ (x : List ℕ). Gives sb x s') (sym c.all) (record { given = Consumes-trans _ _ _ _ _ taken.0.given given.given; unfailed = given.unfailed ∙ taken.0.unfailed }),
+          omega (arith, counted, keeps.within, keeps.limit, on.limit),
         );
-        counted = omega (arith, once.counted, on.counted, size);
-        limit = ap (λ x. x.limit) once.filler ∙ on.limit;
+        counted = counted;
+        drafted = once.holds.drafted ∙ ap length keeps.draft;
+        limit = keeps.limit ∙ on.limit;
         job_is = on.job_is;
         wrote = on.wrote;
-        ended = a.ended_is ∙ on.ended ∙ ap (λ (o : Option FillEnd). option_map end_code o) rest.none_yet;
+        ended = c.asked.ended_is ∙ on.ended ∙ ap (λ (o : Option FillEnd). option_map end_code o) rest.none_yet;
         not_gone = λ code is. absurd cc;
-        draft = once.draft;
-        room = omega (arith, on.room, ap (λ x. x.capacity) once.shape);
-        thresholds = rw (ap (λ x. x.pause) once.shape, ap (λ x. x.resume) once.shape) on.thresholds;
-      },
-      less (nat_lt 0 (p'.control.committed - p'.control.examined)),
-    )
+        draft = keeps.draft;
+        room = subst (λ (o : Options). longest_frame job.input job.max ≤ room_of o) (sym keeps.options) on.room;
+        thresholds = subst (λ (o : Options). AreThresholds o.pause o.resume) (sym keeps.options) on.thresholds;
+      };
+      less = less (nat_lt 0 (middle.pipe.control.committed - middle.pipe.control.examined)) size;
+    }
   where
-    less : (b : Bool) → (2 * (f'.limit - f'.taken) + 1 + cond b 1 0) + 1 ≤ 2 * (f.limit - f.taken) + 1
-    less true = omega (arith, ap (λ x. x.limit) once.filler, once.counted, once.within, took.some)
-    less false = omega (arith, ap (λ x. x.limit) once.filler, once.counted, once.within, took.some)
+    less : (b : Bool) → f'.taken ≡ f.taken + length once.taken → (2 * (f'.limit - f'.taken) + 1 + cond b 1 0) + 1 ≤ 2 * (f.limit - f.taken) + 1
+    less true size = omega (arith, keeps.limit, size, keeps.within, some)
+    less false size = omega (arith, keeps.limit, size, keeps.within, some)
 
 -- no byte was taken, and the writer has completed
-took_end : (job : Job) (sb s s' : SourceState) (kb k : SinkState) (f f' : FillState) (d : DrainState) (p p' : Pipe) (ending : Option FillEnd) (end : FillEnd) → (rest : AtRest job sb s kb k f d p ending) → (once : FillsOnce HoldsFor writer_of f p s (Done end) f' p' s')
-    → TookNone f (shape_of p') rest.on.h once.bytes once.calls (EndWriter (end_code end) ∷ []) → ((code : ℕ) → end ≢ taking.Gone code) → HasTaken job (total rest.on.h) (Some end) sb s'
-    → Pumps job sb s' kb k f' d p' (Some end) × (fuel f' p' (Some end) + 1 ≤ 2 * (f.limit - f.taken) + 1)
-took_end job sb s s' kb k f f' d p p' ending end rest once none not_gone taken =
+took_end : (job : Job) (sb s s' : SourceState) (kb k : SinkState) (f f' : FillingState) (d : DrainingState) (p middle p' : Local) (ending : Option FillEnd) (filled : Filled) (end : FillEnd) (wake : Wake) → (rest : AtRest job sb s kb k f d p ending) → (once : Once f p s filled f' middle s' rest.on.h (total rest.on.h)) → middle.pipe.bytes.draft ≡ []
+    → Keeps f p f' p' → LocalCompletes middle middle.pipe.bytes.draft (end_code end) wake p' → once.taken ≡ [] → ((code : ℕ) → end ≢ taking.Gone code) → TakenSoFar job (total rest.on.h) (Some end) sb s'
+    → StepFilled job sb s' kb k f f' d p' (Some end)
+took_end job sb s s' kb k f f' d p middle p' ending filled end wake rest once settled keeps completes none not_gone taken =
     let on = rest.on in
     let h = on.h in
-    let before = asked f.owed ++ h in
-    let h' = EndWriter (end_code end) ∷ before in
-    let same : once.calls ++ h ≡ h' = ap (λ (calls : List Call). calls ++ h) none.calls_are in
-    let holds = subst (λ (calls : List Call). HoldsFor p' calls) same (once.stands h on.holds) in
-    let a = behind_asked d h on.text f.owed on.holds.marks.legal on.goes in
-    let counted : f'.taken ≡ f.taken = omega (arith, once.counted, ap length none.none) in (
-      record {
-        h = h';
+    let c = committed job sb s s' kb k f f' d p middle ending filled rest once settled in
+    let all : total once.now ≡ total h = c.all ∙ ap (λ (x : List ℕ). total h ++ x) none ∙ append-nil (total h) in
+    let holds : HoldsFor p'.pipe (EndWriter (end_code end) ∷ once.now) = subst (λ (x : List ℕ). HoldsFor p'.pipe (closing x (end_code end) ++ once.now)) settled (completes.stands once.now c.holds) in
+    let counted : f'.taken ≡ length (total once.now) = once.holds.counted ∙ sym (ap length c.all) in
+    let same : f'.taken ≡ f.taken = counted ∙ ap length all ∙ sym on.counted in
+    record {
+      on = record {
+        h = EndWriter (end_code end) ∷ once.now;
         text = on.text;
         holds = holds;
-        goes = goes_end d before on.text (end_code end) a.goes;
-        taken = subst (λ (x : List ℕ). HasTaken job x (Some end) sb s') (sym a.total_is) taken;
-        counted = omega (arith, counted, on.counted, ap length a.total_is);
-        limit = ap (λ x. x.limit) once.filler ∙ on.limit;
+        goes = goes_end d.drained once.now on.text (end_code end) c.asked.goes;
+        fresh = on.fresh;
+        taken = subst (λ (x : List ℕ). TakenSoFar job x (Some end) sb s') (sym all) taken;
+        counted = counted;
+        drafted = once.holds.drafted ∙ ap length settled;
+        limit = keeps.limit ∙ on.limit;
         job_is = on.job_is;
         wrote = on.wrote;
         ended = refl;
         not_gone = λ code is. not_gone code (some_end end (taking.Gone code) is);
-        draft = once.draft;
-        room = omega (arith, on.room, ap (λ x. x.capacity) once.shape);
-        thresholds = rw (ap (λ x. x.pause) once.shape, ap (λ x. x.resume) once.shape) on.thresholds;
-      },
-      less (nat_lt 0 (p'.control.committed - p'.control.examined)) (none_left _ _ (omega (arith, holds.marks.committed, holds.marks.examined, a.examined_is, rest.all_seen, ap length a.total_is))) counted,
-    )
+        draft = keeps.draft;
+        room = subst (λ (o : Options). longest_frame job.input job.max ≤ room_of o) (sym keeps.options) on.room;
+        thresholds = subst (λ (o : Options). AreThresholds o.pause o.resume) (sym keeps.options) on.thresholds;
+      };
+      less = less (nat_lt 0 (p'.pipe.control.committed - p'.pipe.control.examined)) (none_left _ _ (omega (arith, holds.marks.committed, holds.marks.examined, c.asked.examined_is, rest.all_seen, ap length all))) same;
+    }
   where
     some_end : (a b : FillEnd) → Some a ≡ Some b → a ≡ b
     some_end a b e = ap (λ (o : Option FillEnd). unwrap_or o a) e
 
     less : (b : Bool) → b ≡ false → f'.taken ≡ f.taken → (2 * (f'.limit - f'.taken) + 0 + cond b 1 0) + 1 ≤ 2 * (f.limit - f.taken) + 1
-    less b off counted = rw off (omega (arith, ap (λ x. x.limit) once.filler, counted))
+    less b off counted = rw off (omega (arith, keeps.limit, counted))
 
 -- ---- what doesn't come
 
@@ -160,104 +209,105 @@ abbrev pub NeverBoth : Type 0
 NeverBoth = (pause resume : ℕ) (h : List Call) (examined held : ℕ) → (pause ≡ 0) ⊎ (1 ≤ resume) × (resume ≤ pause) → IsLegal h →
     reply_to_read h ≡ read.Pending examined → reply_to_commit pause resume h [] ≡ flush.Pending held → ⊥
 
--- a pipe that rests doesn't hold the writer
-never_paused : (job : Job) (sb s s' : SourceState) (kb k : SinkState) (f f' : FillState) (d : DrainState) (p p' : Pipe) (ending : Option FillEnd) (step : FillStep) (n : ℕ) → NeverBoth → (rest : AtRest job sb s kb k f d p ending) → (once : FillsOnce HoldsFor writer_of f p s step f' p' s')
-    → reply_to_commit (shape_of p').pause (shape_of p').resume rest.on.h [] ≡ flush.Pending n → ⊥
-never_paused job sb s s' kb k f f' d p p' ending step n law rest once replied =
-    law p.control.pause p.control.resume rest.on.h (examined rest.on.h) n rest.on.thresholds.1 rest.on.holds.marks.legal rest.waits
-    (ap (λ (x : Shape). reply_to_commit x.pause x.resume rest.on.h []) (sym once.shape) ∙ replied)
+-- a pipe that rests doesn't hold the writer, so bytes were taken where it does
+some_taken : (job : Job) (sb s : SourceState) (kb k : SinkState) (f : FillingState) (d : DrainingState) (p : Local) (ending : Option FillEnd) (n : ℕ) (taken : List ℕ) (now : List Call) → NeverBoth → (rest : AtRest job sb s kb k f d p ending)
+    → Replied NoOthers p.options (flush.Pending n) f.owed p.pipe.bytes.draft rest.on.h taken now → 0 < length taken
+some_taken job sb s kb k f d p ending n [] now law rest replied =
+    let first = replied.first refl in
+    let found = later_same rest.on.h replied.found first.1 in
+    let runs : replied.runs ≡ [] = first.2 ∙ ap (λ (x : List ℕ). runs_of x) rest.on.draft in
+    absurd (law p.options.pause p.options.resume rest.on.h (examined rest.on.h) n rest.on.thresholds.1 rest.on.holds.marks.legal rest.waits
+    (sym (ap (λ (x : List Call). reply_to_commit p.options.pause p.options.resume x []) found) ∙ sym (ap (λ (r : List Run). reply_to_commit p.options.pause p.options.resume replied.found r) runs) ∙ sym replied.replied))
+some_taken job sb s kb k f d p ending n (b ∷ bytes) now law rest replied = omega arith
 
 -- nor is it full
-never_full : (job : Job) (sb s s' : SourceState) (kb k : SinkState) (f f' : FillState) (d : DrainState) (p p' : Pipe) (ending : Option FillEnd) (step : FillStep) → (rest : AtRest job sb s kb k f d p ending) → (once : FillsOnce HoldsFor writer_of f p s step f' p' s')
-    → once.calls ≡ [] ++ asked f.owed → p'.bytes.free ≡ [] → ⊥
-never_full job sb s s' kb k f f' d p p' ending step rest once calls_are full =
+never_full : (job : Job) (sb s s' : SourceState) (kb k : SinkState) (f f' : FillingState) (d : DrainingState) (p middle : Local) (ending : Option FillEnd) (filled : Filled) (held_told draft_told capacity : ℕ) → (rest : AtRest job sb s kb k f d p ending) → (once : Once f p s filled f' middle s' rest.on.h (total rest.on.h)) → Keeps f p f' middle → once.taken ≡ []
+    → IsFull 1 held_told draft_told capacity middle → ⊥
+never_full job sb s s' kb k f f' d p middle ending filled held_told draft_told capacity rest once keeps none full =
     let on = rest.on in
-    let h = on.h in
-    let same : once.calls ++ h ≡ asked f.owed ++ h = ap (λ (calls : List Call). calls ++ h) calls_are in
-    let holds = subst (λ (calls : List Call). HoldsFor p' calls) same (once.stands h on.holds) in
-    let a = behind_asked d h on.text f.owed on.holds.marks.legal on.goes in
-    let drained = a.goes.drained in
-    let all : looked_at (asked f.owed ++ h) ≡ total (asked f.owed ++ h) = take_all (examined (asked f.owed ++ h)) (total (asked f.owed ++ h)) (omega (arith, a.examined_is, rest.all_seen, ap length a.total_is)) in
-    let held_is : p'.bytes.held ≡ drop d.place (total (asked f.owed ++ h)) =
-    holds.held ∙ ap (λ (o : Option ℕ). if is_none o then held (asked f.owed ++ h) else []) a.goes.attended ∙ ap (λ (n : ℕ). drop n (total (asked f.owed ++ h))) (sym drained.place) in
-    let short = drained.short in
-    omega (arith, ap length held_is, ap (λ (x : List ℕ). length (drop d.place x)) all, short, ap length full, ap length once.draft, on.room, ap (λ x. x.capacity) once.shape, longest_same d job on.job_is)
+    let c = committed job sb s s' kb k f f' d p middle ending filled rest once keeps.draft in
+    let now = once.now in
+    let all : total now ≡ total on.h = c.all ∙ ap (λ (x : List ℕ). total on.h ++ x) none ∙ append-nil (total on.h) in
+    let drained = c.asked.goes.drained in
+    let seen : looked_at now ≡ total now = take_all (examined now) (total now) (omega (arith, c.asked.examined_is, rest.all_seen, ap length all)) in
+    let held_is : middle.pipe.bytes.held ≡ drop d.drained.place (total now) =
+    c.holds.held ∙ ap (λ (o : Option ℕ). if is_none o then held now else []) c.asked.goes.attended ∙ ap (λ (n : ℕ). drop n (total now)) (sym drained.place) in
+    let room : longest_frame job.input job.max ≤ room_of middle.options = subst (λ (o : Options). longest_frame job.input job.max ≤ room_of o) (sym keeps.options) on.room in
+    omega (arith, ap length held_is, ap (λ (x : List ℕ). length (drop d.drained.place x)) seen, drained.short, full.held_told, full.draft_told, full.capacity_told, full.full, ap length keeps.draft, room, longest_same d.drained job on.job_is)
   where
     longest_same : (d : DrainState) (job : Job) → d.job ≡ job → longest_frame d.job.input d.job.max ≡ longest_frame job.input job.max
     longest_same d job is = ap (λ (j : Job). longest_frame j.input j.max) is
 
 -- nor is the reader gone
-never_gone : (job : Job) (sb s s' : SourceState) (kb k : SinkState) (f : FillState) (d : DrainState) (p p' : Pipe) (ending : Option FillEnd) (canceled : Bool) (code : ℕ) → (rest : AtRest job sb s kb k f d p ending) → (h : List Call) (runs : List Run) → reader_end h ≡ None
-    → reply_to_commit (shape_of p').pause (shape_of p').resume h runs ≡ flush.Ready canceled (Some code) → ⊥
-never_gone job sb s s' kb k f d p p' ending canceled code rest h runs attended replied =
-    let same = gone_says (shape_of p').pause (shape_of p').resume h runs canceled (Some code) replied ∙ attended in absurd cc
+never_gone : (d : DrainState) (text : List ℕ) (options : Options) (owed : Bool) (draft : List ℕ) (h : List Call) (taken : List ℕ) (now : List Call) (canceled : Bool) (code : ℕ) → Goes d now text → Replied NoOthers options (flush.Ready canceled (Some code)) owed draft h taken now → ⊥
+never_gone d text options owed draft h taken now canceled code goes replied =
+    let said = gone_says options.pause options.resume replied.found replied.runs canceled (Some code) (sym replied.replied) in
+    let attended : reader_end replied.found ≡ None = sym (ap (λ (x : List Call). reader_end x) replied.last) ∙ goes.attended in
+    let same = said ∙ attended in absurd cc
 
 -- ---- all of them
 
-pub record Filled (job : Job) (sb s' : SourceState) (kb k : SinkState) (f f' : FillState) (d : DrainState) (p p' : Pipe) (ending : Option FillEnd) (step : FillStep) : Type 0 where
-  pub on : Pumps job sb s' kb k f' d p' (ended_by step)
-  pub less : fuel f' p' (ended_by step) + 1 ≤ 2 * (f.limit - f.taken) + 1
+pub filled : (job : Job) (sb s s' : SourceState) (kb k : SinkState) (f f' : FillingState) (d : DrainingState) (p p' : Local) (ending result : Option FillEnd) → NeverBoth → (rest : AtRest job sb s kb k f d p ending) → FillsLocal f p s result f' p' s' rest.on.h (total rest.on.h) → Keeps f p f' p'
+    → StepFilled job sb s' kb k f f' d p' result
+filled job sb s s' kb k f f' d p p' ending result law rest fills keeps = by_step fills.filled fills.middle fills.once fills.settled fills.ends
+  where
+    stays : (middle : Local) → p' ≡ middle → Keeps f p f' middle
+    stays middle same = subst (λ (x : Local). Keeps f p f' x) same keeps
 
-pub filled : (job : Job) (sb s s' : SourceState) (kb k : SinkState) (f f' : FillState) (d : DrainState) (p p' : Pipe) (ending : Option FillEnd) (step : FillStep) → NeverBoth → AtRest job sb s kb k f d p ending → FillsOnce HoldsFor writer_of f p s step f' p' s'
-    → Filled job sb s' kb k f f' d p p' ending step
-filled job sb s s' kb k f f' d p p' ending (Moved n) law rest once =
-    let cause = once.cause rest.on.h rest.on.holds in
-    let t = took_bytes job sb s s' kb k f f' d p p' ending (Moved n) _ rest once cause.1.1 in
-    record { on = t.0; less = t.1 }
-filled job sb s s' kb k f f' d p p' ending (Paused n) law rest once = elim (once.cause rest.on.h rest.on.holds) [
-  | inl again ↦ absurd (never_paused job sb s s' kb k f f' d p p' ending (Paused n) n law rest once again.replied)
-  | inr took ↦
-      let t = took_bytes job sb s s' kb k f f' d p p' ending (Paused n) _ rest once took in
-      record { on = t.0; less = t.1 }
-]
-filled job sb s s' kb k f f' d p p' ending (Full n) law rest once =
-    let cause = once.cause rest.on.h rest.on.holds in
-    absurd (never_full job sb s s' kb k f f' d p p' ending (Full n) rest once cause.0.calls_are cause.2)
-filled job sb s s' kb k f f' d p p' ending (Done taking.End) law rest once =
-    let cause = once.cause rest.on.h rest.on.holds in
-    let taken = subst (λ (o : Option FillEnd). HasTaken job (total rest.on.h) o sb s) rest.none_yet rest.on.taken in
-    let t = took_end job sb s s' kb k f f' d p p' ending taking.End rest once cause.0 (λ code is. absurd cc) (λ text failed. record {
-      dropped = [];
-      dropping = refl;
-      given = Consumes-trans _ _ _ _ _ taken.0.given cause.1.given;
-      within = taken.1;
-      end = λ is. cause.2;
-      long = λ is. absurd cc;
-      fault = λ is. absurd cc;
-      unfailed = λ is. cause.1.unfailed ∙ taken.0.unfailed;
-    }) in
-    record { on = t.0; less = t.1 }
-filled job sb s s' kb k f f' d p p' ending (Done taking.Fault) law rest once =
-    let cause = once.cause rest.on.h rest.on.holds in
-    let taken = subst (λ (o : Option FillEnd). HasTaken job (total rest.on.h) o sb s) rest.none_yet rest.on.taken in
-    let t = took_end job sb s s' kb k f f' d p p' ending taking.Fault rest once cause.0 (λ code is. absurd cc) (λ text failed. record {
-      dropped = [];
-      dropping = refl;
-      given = rw (append-nil (total rest.on.h)) (Consumes-kept sb.left s.left s'.left (total rest.on.h) taken.0.given cause.1.kept);
-      within = taken.1;
-      end = λ is. absurd cc;
-      long = λ is. absurd cc;
-      fault = λ is. rw (← taken.0.unfailed) cause.1.risen;
-      unfailed = λ other. absurd (other refl);
-    }) in
-    record { on = t.0; less = t.1 }
-filled job sb s s' kb k f f' d p p' ending (Done taking.Long) law rest once =
-    let cause = once.cause rest.on.h rest.on.holds in
-    let taken = subst (λ (o : Option FillEnd). HasTaken job (total rest.on.h) o sb s) rest.none_yet rest.on.taken in
-    let t = took_end job sb s s' kb k f f' d p p' ending taking.Long rest once cause.0 (λ code is. absurd cc) (λ text failed. record {
-      dropped = cause.2.dropped;
-      dropping = cause.2.one;
-      given = Consumes-trans _ _ _ _ _ taken.0.given cause.2.given.given;
-      within = taken.1;
-      end = λ is. absurd cc;
-      long = λ is. sym rest.on.counted ∙ cause.1 ∙ rest.on.limit;
-      fault = λ is. absurd cc;
-      unfailed = λ is. cause.2.given.unfailed ∙ taken.0.unfailed;
-    }) in
-    record { on = t.0; less = t.1 }
-filled job sb s s' kb k f f' d p p' ending (Done (taking.Gone code)) law rest once = elim (once.cause rest.on.h rest.on.holds).1 [
-  | inl again ↦ absurd (never_gone job sb s s' kb k f d p p' ending _ code rest rest.on.h [] rest.on.goes.attended again.replied)
-  | inr took ↦
-      let a = behind_asked d rest.on.h rest.on.text f.owed rest.on.holds.marks.legal rest.on.goes in
-      absurd (never_gone job sb s s' kb k f d p p' ending _ code rest (asked f.owed ++ rest.on.h) (runs_of once.bytes) a.goes.attended took.replied)
-]
+    more : (middle : Local) → result ≡ None → p' ≡ middle → StepFilled job sb s' kb k f f' d middle None → StepFilled job sb s' kb k f f' d p' result
+    more middle none same so = subst (λ (o : Option FillEnd). StepFilled job sb s' kb k f f' d p' o) (sym none) (subst (λ (x : Local). StepFilled job sb s' kb k f f' d x None) (sym same) so)
+
+    at_end : (end : FillEnd) → result ≡ Some end → StepFilled job sb s' kb k f f' d p' (Some end) → StepFilled job sb s' kb k f f' d p' result
+    at_end end some so = subst (λ (o : Option FillEnd). StepFilled job sb s' kb k f f' d p' o) (sym some) so
+
+    taken : TakenSoFar job (total rest.on.h) None sb s
+    taken = subst (λ (o : Option FillEnd). TakenSoFar job (total rest.on.h) o sb s) rest.none_yet rest.on.taken
+
+    by_step : (filled : Filled) (middle : Local) → (once : Once f p s filled f' middle s' rest.on.h (total rest.on.h)) → middle.pipe.bytes.draft ≡ [] → EndsBy filled middle result p' → StepFilled job sb s' kb k f f' d p' result
+    by_step (Moved n) middle once settled ends =
+        let some : 0 < length once.taken = omega (arith, once.cause.0, once.cause.1, ap length rest.on.draft) in
+        more middle ends.0 ends.1 (took_bytes job sb s s' kb k f f' d p middle ending (Moved n) rest once (stays middle ends.1) once.loses some)
+    by_step (Paused n) middle once settled ends =
+        more middle ends.0 ends.1 (took_bytes job sb s s' kb k f f' d p middle ending (Paused n) rest once (stays middle ends.1) once.loses (some_taken job sb s kb k f d p ending n once.taken once.now law rest once.cause))
+    by_step (Full in_pipe drafted capacity) middle once settled ends =
+        let full = once.cause.so in
+        absurd (never_full job sb s s' kb k f f' d p middle ending (Full in_pipe drafted capacity) in_pipe drafted capacity rest once (stays middle ends.1) once.loses.0 (subst (λ (x : Local). IsFull 1 in_pipe drafted capacity x) (sym full.1) full.0))
+    by_step (Ended taking.End) middle once settled ends =
+        at_end taking.End ends.0 (took_end job sb s s' kb k f f' d p middle p' ending (Ended taking.End) taking.End ends.1.0 rest once settled keeps ends.1.1 once.loses.0 (λ code is. absurd cc) (record {
+          dropped = [];
+          dropping = refl;
+          given = Consumes-trans _ _ _ _ _ taken.0.given once.loses.1.given;
+          within = taken.1;
+          end = λ is. once.loses.2;
+          long = λ is. absurd cc;
+          fault = λ is. absurd cc;
+          unfailed = λ is. once.loses.1.unfailed ∙ taken.0.unfailed;
+        }))
+    by_step (Ended taking.Fault) middle once settled ends =
+        at_end taking.Fault ends.0 (took_end job sb s s' kb k f f' d p middle p' ending (Ended taking.Fault) taking.Fault ends.1.0 rest once settled keeps ends.1.1 once.loses.0 (λ code is. absurd cc) (record {
+          dropped = [];
+          dropping = refl;
+          given = rw (append-nil (total rest.on.h)) (Consumes-kept sb.left s.left s'.left (total rest.on.h) taken.0.given once.loses.1.kept);
+          within = taken.1;
+          end = λ is. absurd cc;
+          long = λ is. absurd cc;
+          fault = λ is. rw (← taken.0.unfailed) once.loses.1.risen;
+          unfailed = λ other. absurd (other refl);
+        }))
+    by_step (Ended taking.Long) middle once settled ends =
+        at_end taking.Long ends.0 (took_end job sb s s' kb k f f' d p middle p' ending (Ended taking.Long) taking.Long ends.1.0 rest once settled keeps ends.1.1 once.loses.0 (λ code is. absurd cc) (record {
+          dropped = once.loses.1.dropped;
+          dropping = once.loses.1.one;
+          given = Consumes-trans _ _ _ _ _ taken.0.given once.loses.1.given.given;
+          within = taken.1;
+          end = λ is. absurd cc;
+          long = λ is. sym rest.on.counted ∙ once.cause ∙ rest.on.limit;
+          fault = λ is. absurd cc;
+          unfailed = λ is. once.loses.1.given.unfailed ∙ taken.0.unfailed;
+        }))
+    by_step (Ended (taking.Gone code)) middle once settled ends =
+        let c = committed job sb s s' kb k f f' d p middle ending (Ended (taking.Gone code)) rest once settled in
+        absurd (never_gone d.drained rest.on.text p.options f.owed p.pipe.bytes.draft rest.on.h once.taken once.now once.cause.0 code c.asked.goes once.cause.1)
+
+pub small_total : (p : Local) (h : List Call) → HoldsFor p.pipe h → p.pipe.control.committed ≤ 2 ^ 62
+small_total p h holds = omega (arith, holds.marks.committed, (ordered h holds.marks.legal).total_in)

@@ -1,6 +1,7 @@
 -- How a relay on one thread goes on.
-use Rattle.std.proofs.Common.{◌≡◌, ◌≢◌, ◌<◌, ◌≤◌, ◌+◌, ◌-◌, ◌*◌, ℕ, Bool, true, false, cond, if◌then◌else◌, nat_lt, List, [], ◌∷◌, ◌++◌, length, Option, Some, None, refl, sym, ap, ◌∙◌, subst, append-nil, arith}
-use Rattle.std.specs.Prelude.{is_none, is_some, option_map, ◌||◌}
+use Rattle.std.specs.List.{AllByRecursion}
+use Rattle.std.proofs.Common.{◌≡◌, ◌≢◌, ◌<◌, ◌≤◌, ◌+◌, ◌-◌, ◌*◌, ◌⊎◌, inl, inr, ℕ, Bool, true, false, cond, if◌then◌else◌, nat_lt, List, [], ◌∷◌, ◌++◌, length, Option, Some, None, IsNone, Ok, Err, refl, sym, ap, ◌∙◌, subst, append-nil, arith}
+use Rattle.std.specs.Prelude.{is_none, is_some, option_map, unwrap_or, ◌||◌}
 use Rattle.std.proofs.KnownBytes.{Consumes-nil}
 use Rattle.edge_core.specs.Device.{SourceState, SinkState, Gives, Takes}
 use Rattle.edge_core.proofs.DeviceLemmas.{Takes-trans}
@@ -13,24 +14,34 @@ use Rattle.frame_model.specs.Spelling.{longest_frame}
 use Rattle.frame_model.specs.Cut.{Open, cut}
 use Rattle.frame_model.specs.Translation.{translation_of}
 use Rattle.frame_model.proofs.FrontLemmas.{front_empty}
-use Rattle.relay_engine.proofs.DeviceLemmas.{takes_nothing}
-use Rattle.relay_engine.proofs.FrameLemmas.{passes_nothing}
 use Rattle.relay_model.specs.Run.{IsTaken}
-use Rattle.pipe_core.specs.History.{Call, Run, Commit, Read, Advance, writer_end, reader_end}
+use Rattle.pipe_core.specs.History.{Call, Run, Commit, EndWriter, Read, Advance, EndReader, CancelRead, CancelFlush, writer_end, reader_end}
 use Rattle.pipe_core.specs.Progress.{total, examined, unexamined, held, canceled_read, canceled_flush}
 use Rattle.pipe_core.specs.Reads.{read_is_ready, reply_to_read}
 use Rattle.pipe_core.specs.declared.reply.ReadReply.TheVariants as read
 use Rattle.pipe_core.specs.Lends.{lend}
 use Rattle.pipe_core.specs.Flushes.{flush_is_ready, reply_to_commit}
 use Rattle.pipe_core.specs.declared.reply.FlushReply.TheVariants as flush
-use Rattle.relay_engine.specs.Ends.{reader_of}
-use Rattle.relay_engine.specs.declared.drainer.DrainStep.TheVariants.{Moved, Idle}
-use Rattle.relay_engine.proofs.DrainLemmas.{ready_says}
-use Rattle.pipe_core.specs.Bytes.{capacity_of}
-use Rattle.pipe_core.specs.Pipe.{Pipe, HoldsFor}
+use Rattle.pipe_core.specs.Legal.{seat_of}
+use Rattle.pipe_core.specs.Pipe.{HoldsFor}
 use Rattle.pipe_core.specs.Standing.{AreThresholds}
-use Rattle.relay_engine.specs.Filler.{FillState, written, end_code}
-use Rattle.relay_engine.specs.Drainer.{DrainState, DrainsOnce, IsDrained}
+use Rattle.pipe_shared.specs.declared.options.Options.{Options}
+use Rattle.pipe_shared.specs.declared.faults.TryFault.{TryFault}
+use Rattle.pipe_shared.specs.Options.{room_of}
+use Rattle.pipe_shared.specs.Local.{Local}
+use Rattle.relay_engine.specs.Filler.{written, end_code}
+use Rattle.relay_engine.specs.Filling.{FillingState}
+use Rattle.relay_engine.specs.Later.{Later}
+use Rattle.relay_engine.specs.Drainer.{DrainState, IsDrained}
+use Rattle.relay_engine.specs.ReaderEnds.{Aside, aside_local, lent_local}
+use Rattle.relay_engine.specs.LocalEnds.{HoldsLocal, NoOthers, RefusesNone}
+use Rattle.relay_engine.specs.Draining.{DrainingState, DrainsOnce, GainsBy, GoesOn, HasPassed, MovesBy, Stands, lent_for}
+use Rattle.relay_engine.specs.declared.draining.Owed.{Owed}
+use Rattle.relay_engine.specs.declared.draining.Progress.{Progress}
+use Rattle.relay_engine.specs.declared.draining.Progress.TheVariants.{Moved, Idle}
+use Rattle.relay_engine.proofs.DeviceLemmas.{takes_nothing}
+use Rattle.relay_engine.proofs.DrainLemmas.{pending_says, ready_says}
+use Rattle.relay_engine.proofs.FrameLemmas.{passes_nothing}
 
 -- A history in which nothing was dropped, and in which the reader goes on and has nothing lent.
 pub record Goes (d : DrainState) (h : List Call) (text : List ℕ) : Type 0 where
@@ -41,29 +52,35 @@ pub record Goes (d : DrainState) (h : List Call) (text : List ℕ) : Type 0 wher
   pub uncanceled : canceled_read h ≡ false
 
 -- what was taken, while more is, and how the taking ended
-abbrev pub HasTaken : Job → List ℕ → Option FillEnd → SourceState → SourceState → Type 0
-HasTaken job x None before after = Gives before x after × (length x ≤ job.limit)
-HasTaken job x (Some end) before after = (text : List ℕ) (failed : Bool) → IsTaken job (record { taken = x; ending = end; written = text; write_failed = failed }) before after
+abbrev pub TakenSoFar : Job → List ℕ → Option FillEnd → SourceState → SourceState → Type 0
+TakenSoFar job x None before after = Gives before x after × (length x ≤ job.limit)
+TakenSoFar job x (Some end) before after = IsTaken job.limit x end before after
 
-pub record Pumps (job : Job) (source_before source_now : SourceState) (sink_before sink_now : SinkState) (f : FillState) (d : DrainState) (p : Pipe) (ending : Option FillEnd) : Type 0 where
+pub record Pumps (job : Job) (source_before source_now : SourceState) (sink_before sink_now : SinkState) (f : FillingState) (d : DrainingState) (p : Local) (ending : Option FillEnd) : Type 0 where
   pub h : List Call
   pub text : List ℕ
-  pub holds : HoldsFor p h
-  pub goes : Goes d h text
-  pub taken : HasTaken job (total h) ending source_before source_now
+  pub holds : HoldsFor p.pipe h
+  pub goes : Goes d.drained h text
+  pub fresh : d.owed ≡ None
+  pub taken : TakenSoFar job (total h) ending source_before source_now
   pub counted : f.taken ≡ length (total h)
+  pub drafted : f.drafted ≡ 0
   pub limit : f.limit ≡ job.limit
-  pub job_is : d.job ≡ job
+  pub job_is : d.drained.job ≡ job
   pub wrote : Takes sink_before text sink_now
   pub ended : writer_end h ≡ option_map end_code ending
   pub not_gone : (code : ℕ) → ending ≢ Some (taking.Gone code)
-  pub draft : p.bytes.draft ≡ []
-  pub room : longest_frame job.input job.max ≤ capacity_of p.bytes
-  pub thresholds : AreThresholds p.control.pause p.control.resume
+  pub draft : p.pipe.bytes.draft ≡ []
+  pub room : longest_frame job.input job.max ≤ room_of p.options
+  pub thresholds : AreThresholds p.options.pause p.options.resume
 
 -- how many steps there can be yet
-abbrev pub fuel : FillState → Pipe → Option FillEnd → ℕ
-fuel f p ending = 2 * (f.limit - f.taken) + (if is_none ending then 1 else 0) + (if nat_lt 0 (p.control.committed - p.control.examined) then 1 else 0)
+abbrev pub fuel : FillingState → Local → Option FillEnd → ℕ
+fuel f p ending = 2 * (f.limit - f.taken) + (if is_none ending then 1 else 0) + (if nat_lt 0 (p.pipe.control.committed - p.pipe.control.examined) then 1 else 0)
+
+-- A step of the drainer.
+abbrev pub Drains : DrainingState → Local → SinkState → Progress → DrainingState → Local → SinkState → Type 0
+Drains d p before progress d' p' after = DrainsOnce HoldsLocal NoOthers RefusesNone lent_local aside_local d p before (Ok progress) d' p' after
 
 -- ---- the start
 
@@ -88,17 +105,19 @@ new_drained job = record {
   unended = λ line. refl;
 }
 
-pub starts : (job : Job) (s : SourceState) (k : SinkState) (f : FillState) (d : DrainState) (p : Pipe) → f ≡ record { limit = job.limit; seg = job.seg; taken = 0; owed = false } → d ≡ record { job = job; place = 0; frames = 0; written = 0; known = 0 } → HoldsFor p [] → p.bytes.draft ≡ []
-    → longest_frame job.input job.max ≤ capacity_of p.bytes → AreThresholds p.control.pause p.control.resume → Pumps job s s k k f d p None
-starts job s k f d p filler drainer holds draft room thresholds = record {
+pub starts : (job : Job) (s : SourceState) (k : SinkState) (f : FillingState) (d : DrainingState) (p : Local) → f ≡ record { limit = job.limit; taken = 0; owed = false; drafted = 0 } → d ≡ record { drained = record { job = job; place = 0; frames = 0; written = 0; known = 0 }; owed = None }
+    → HoldsFor p.pipe [] → p.pipe.bytes.draft ≡ [] → longest_frame job.input job.max ≤ room_of p.options → AreThresholds p.options.pause p.options.resume → Pumps job s s k k f d p None
+starts job s k f d p filling draining holds draft room thresholds = record {
   h = [];
   text = [];
   holds = holds;
-  goes = record { drained = rw drainer (new_drained job); kept = refl; attended = refl; no_lend = refl; uncanceled = refl };
+  goes = record { drained = rw draining (new_drained job); kept = refl; attended = refl; no_lend = refl; uncanceled = refl };
+  fresh = ap (λ d. d.owed) draining;
   taken = (record { given = Consumes-nil s.left; unfailed = refl }, omega arith);
-  counted = ap (λ f. f.taken) filler;
-  limit = ap (λ f. f.limit) filler;
-  job_is = ap (λ d. d.job) drainer;
+  counted = ap (λ f. f.taken) filling;
+  drafted = ap (λ f. f.drafted) filling;
+  limit = ap (λ f. f.limit) filling;
+  job_is = ap (λ d. d.drained.job) draining;
   wrote = takes_nothing k k refl;
   ended = refl;
   not_gone = λ code is. absurd cc;
@@ -159,31 +178,101 @@ gone_says pause resume h runs canceled code e = flush_if (flush_is_ready pause r
 
 -- ---- behind a drain step
 
-pub moved_on : (job : Job) (sb s : SourceState) (kb k k' : SinkState) (f : FillState) (d d' : DrainState) (p p' : Pipe) (ending : Option FillEnd) (frames : ℕ) → Pumps job sb s kb k f d p ending → DrainsOnce HoldsFor reader_of d p k (Moved frames) d' p' k' → Pumps job sb s kb k' f d' p' ending
-moved_on job sb s kb k k' f d d' p p' ending frames on once =
-    let h = on.h in
-    let passed = once.cause h on.text on.holds on.goes.drained in
+no_others : (calls : List Call) → AllByRecursion NoOthers calls → calls ≡ []
+no_others [] all = refl
+no_others (call ∷ calls) all = absurd all.0
+
+-- where nobody else makes a call, no history goes on by itself
+pub later_same : (h k : List Call) → Later NoOthers h k → k ≡ h
+later_same h k later = later.is ∙ ap (λ (x : List Call). x ++ h) (no_others later.between later.all)
+
+-- what the reader's calls leave as it is
+pub record Same (h k : List Call) : Type 0 where
+  pub total_is : total k ≡ total h
+  pub written_is : written k ≡ written h
+  pub ended_is : writer_end k ≡ writer_end h
+  pub uncanceled : canceled_read h ≡ false → canceled_read k ≡ false
+
+not_one : (P : Type 0) (n : ℕ) → n ≢ 1 → (n ≡ 1) ⊎ ⊥ → P
+not_one P n other (inl is) = absurd (other is)
+not_one P n other (inr is) = absurd is
+
+by_reader : (h calls : List Call) → AllByRecursion (λ call. (seat_of call ≡ 1) ⊎ NoOthers call) calls → Same h (calls ++ h)
+by_reader h [] all = record { total_is = refl; written_is = refl; ended_is = refl; uncanceled = λ none. none }
+by_reader h (Read ∷ calls) all = let so = by_reader h calls all.1 in record { total_is = so.total_is; written_is = so.written_is; ended_is = so.ended_is; uncanceled = λ none. refl }
+by_reader h (Advance c e ∷ calls) all = let so = by_reader h calls all.1 in record { total_is = so.total_is; written_is = so.written_is; ended_is = so.ended_is; uncanceled = so.uncanceled }
+by_reader h (EndReader code ∷ calls) all = let so = by_reader h calls all.1 in record { total_is = so.total_is; written_is = so.written_is; ended_is = so.ended_is; uncanceled = so.uncanceled }
+by_reader h (Commit runs ∷ calls) all = not_one (Same h (Commit runs ∷ calls ++ h)) 0 (λ is. absurd (omega (arith, is))) all.0
+by_reader h (EndWriter code ∷ calls) all = not_one (Same h (EndWriter code ∷ calls ++ h)) 0 (λ is. absurd (omega (arith, is))) all.0
+by_reader h (CancelRead ∷ calls) all = not_one (Same h (CancelRead ∷ calls ++ h)) 2 (λ is. absurd (omega (arith, is))) all.0
+by_reader h (CancelFlush ∷ calls) all = not_one (Same h (CancelFlush ∷ calls ++ h)) 2 (λ is. absurd (omega (arith, is))) all.0
+
+pub behind_reader : (h k : List Call) → GoesOn NoOthers h k → Same h k
+behind_reader h k on = subst (λ (x : List Call). Same h x) (sym on.is) (by_reader h on.calls on.all)
+
+none_is : (o : Option ℕ) → IsNone o → o ≡ None
+none_is None none = refl
+none_is (Some at) none = absurd cc
+
+-- the history behind a step of the drainer
+record Behind (h k : List Call) (p' : Local) : Type 0 where
+  same : Same h k
+  attended : reader_end k ≡ None
+
+behind : (h k : List Call) (p' : Local) → GoesOn NoOthers h k → HoldsFor p'.pipe k → IsNone p'.pipe.control.gone → Behind h k p'
+behind h k p' on holds gone = record {
+  same = behind_reader h k on;
+  attended = sym holds.marks.gone ∙ none_is p'.pipe.control.gone gone;
+}
+
+no_lend : (k : List Call) (p' : Local) → HoldsFor p'.pipe k → p'.pipe.control.lent ≡ None → lend k ≡ None
+no_lend k p' holds none = none_of (lend k) (sym holds.marks.lent ∙ none)
+  where
+    none_of : (o : Option (List ℕ)) → option_map length o ≡ None → o ≡ None
+    none_of None is = refl
+    none_of (Some bytes) is = absurd cc
+
+-- the options and the draft are as they were
+abbrev aside : Local → Aside
+aside p = record { options = p.options; draft = p.pipe.bytes.draft }
+
+same_aside : (p p' : Local) → aside_local p' ≡ aside_local p → aside p' ≡ aside p
+same_aside p p' is = ap (λ (o : Option Aside). unwrap_or o (aside p)) is
+
+pub so_far : (d : DrainingState) (h : List Call) (text : List ℕ) → d.owed ≡ None → IsDrained d.drained h text → HasPassed d h text
+so_far d h text fresh drained = subst (λ (o : Option Owed). Stands d.drained o h text) (sym fresh) drained
+
+gained : (d : DrainingState) (a b : SinkState) (gain : List ℕ) → d.owed ≡ None → GainsBy d.owed false a gain b → Takes a gain b
+gained d a b gain fresh gains = subst (λ (o : Option Owed). GainsBy o false a gain b) fresh gains
+
+pub moved_on : (job : Job) (sb s : SourceState) (kb k k' : SinkState) (f : FillingState) (d d' : DrainingState) (p p' : Local) (ending : Option FillEnd) (frames : ℕ) → IsNone p'.pipe.control.gone → Pumps job sb s kb k f d p ending → Drains d p k (Moved frames) d' p' k' → Pumps job sb s kb k' f d' p' ending
+moved_on job sb s kb k k' f d d' p p' ending frames gone on once =
+    let a = once.cause on.h on.text on.holds (so_far d on.h on.text on.fresh on.goes.drained) in
+    let so = behind on.h a.now p' a.on a.stands gone in
+    let kept = same_aside p p' once.kept in
     record {
-      h = Advance passed.passed passed.len ∷ Read ∷ h;
+      h = a.now;
       text = on.text ++ once.gain;
-      holds = subst (λ (calls : List Call). HoldsFor p' (calls ++ h)) passed.calls_are (once.stands h on.holds);
+      holds = a.stands;
       goes = record {
-        drained = subst (λ (calls : List Call). IsDrained d' (calls ++ h) (on.text ++ once.gain)) passed.calls_are passed.drained;
-        kept = on.goes.kept;
-        attended = on.goes.attended;
-        no_lend = refl;
-        uncanceled = refl;
+        drained = a.how.2;
+        kept = so.same.written_is ∙ on.goes.kept ∙ sym so.same.total_is;
+        attended = so.attended;
+        no_lend = no_lend a.now p' a.stands (once.lends ∙ ap (λ (o : Option Owed). lent_for o) a.how.1);
+        uncanceled = so.same.uncanceled on.goes.uncanceled;
       };
-      taken = on.taken;
-      counted = on.counted;
+      fresh = a.how.1;
+      taken = subst (λ (x : List ℕ). TakenSoFar job x ending sb s) (sym so.same.total_is) on.taken;
+      counted = on.counted ∙ sym (ap length so.same.total_is);
+      drafted = on.drafted;
       limit = on.limit;
       job_is = once.job ∙ on.job_is;
-      wrote = Takes-trans kb k k' on.text once.gain on.wrote once.gained;
-      ended = on.ended;
+      wrote = Takes-trans kb k k' on.text once.gain on.wrote (gained d k k' once.gain on.fresh once.gained);
+      ended = so.same.ended_is ∙ on.ended;
       not_gone = on.not_gone;
-      draft = ap (λ x. x.draft) once.writing ∙ on.draft;
-      room = omega (arith, on.room, ap (λ x. x.capacity) once.shape);
-      thresholds = rw (ap (λ x. x.pause) once.shape, ap (λ x. x.resume) once.shape) on.thresholds;
+      draft = ap (λ a. a.draft) kept ∙ on.draft;
+      room = subst (λ (o : Options). longest_frame job.input job.max ≤ room_of o) (sym (ap (λ a. a.options) kept)) on.room;
+      thresholds = subst (λ (o : Options). AreThresholds o.pause o.resume) (sym (ap (λ a. a.options) kept)) on.thresholds;
     }
 
 fuel_less : (a e : ℕ) (now before : Bool) → now ≡ false → before ≡ true → a + e + cond now 1 0 < a + e + cond before 1 0
@@ -195,54 +284,64 @@ none_left a b within = ap (λ (n : ℕ). nat_lt 0 n) (sub_none a b within)
     sub_none : (a b : ℕ) → a ≤ b → a - b ≡ 0
     sub_none a b within = omega (arith, within)
 
-pub moved_less : (job : Job) (sb s : SourceState) (kb k k' : SinkState) (f : FillState) (d d' : DrainState) (p p' : Pipe) (ending : Option FillEnd) (frames : ℕ) → Pumps job sb s kb k f d p ending → DrainsOnce HoldsFor reader_of d p k (Moved frames) d' p' k' → fuel f p' ending < fuel f p ending
-moved_less job sb s kb k k' f d d' p p' ending frames on once =
+pub moved_less : (job : Job) (sb s : SourceState) (kb k k' : SinkState) (f : FillingState) (d d' : DrainingState) (p p' : Local) (ending : Option FillEnd) (frames : ℕ) → IsNone p'.pipe.control.gone → Pumps job sb s kb k f d p ending → Drains d p k (Moved frames) d' p' k' → fuel f p' ending < fuel f p ending
+moved_less job sb s kb k k' f d d' p p' ending frames gone on once =
     let h = on.h in
-    let passed = once.cause h on.text on.holds on.goes.drained in
-    let asked = once.asked h on.holds in
-    let holds = subst (λ (calls : List Call). HoldsFor p' (calls ++ h)) passed.calls_are (once.stands h on.holds) in
-    let before : nat_lt 0 (p.control.committed - p.control.examined) ≡ true =
-    rw (on.holds.marks.committed, on.holds.marks.examined) (some_unexamined h asked.0 asked.1 on.goes.uncanceled asked.2) in
-    let now : nat_lt 0 (p'.control.committed - p'.control.examined) ≡ false = none_left _ _ (omega (arith, holds.marks.committed, holds.marks.examined, passed.lent)) in
-    fuel_less (2 * (f.limit - f.taken)) (if is_none ending then 1 else 0) (nat_lt 0 (p'.control.committed - p'.control.examined)) (nat_lt 0 (p.control.committed - p.control.examined)) now before
+    let a = once.cause h on.text on.holds (so_far d h on.text on.fresh on.goes.drained) in
+    let so = behind h a.now p' a.on a.stands gone in
+    let moves = subst (λ (o : Option Owed). MovesBy NoOthers o d h frames d' a.now) on.fresh a.how.0 in
+    let found = later_same h moves.found moves.later in
+    let before : nat_lt 0 (p.pipe.control.committed - p.pipe.control.examined) ≡ true =
+    rw (on.holds.marks.committed, on.holds.marks.examined) (some_unexamined h moves.canceled moves.len on.goes.uncanceled (subst (λ (x : List Call). reply_to_read x ≡ read.Ready moves.canceled None moves.len) found moves.told)) in
+    let now : nat_lt 0 (p'.pipe.control.committed - p'.pipe.control.examined) ≡ false =
+    none_left _ _ (omega (arith, a.stands.marks.committed, a.stands.marks.examined, moves.all_seen, ap length so.same.total_is, ap (λ (x : List Call). length (total x)) found)) in
+    fuel_less (2 * (f.limit - f.taken)) (if is_none ending then 1 else 0) (nat_lt 0 (p'.pipe.control.committed - p'.pipe.control.examined)) (nat_lt 0 (p.pipe.control.committed - p.pipe.control.examined)) now before
 
 -- the pipe rests: all that is committed was examined, and the writer goes on
-pub record AtRest (job : Job) (sb s : SourceState) (kb k : SinkState) (f : FillState) (d : DrainState) (p : Pipe) (ending : Option FillEnd) : Type 0 where
+pub record AtRest (job : Job) (sb s : SourceState) (kb k : SinkState) (f : FillingState) (d : DrainingState) (p : Local) (ending : Option FillEnd) : Type 0 where
   pub on : Pumps job sb s kb k f d p ending
   pub none_yet : ending ≡ None
   pub all_seen : examined on.h ≡ length (total on.h)
   pub waits : reply_to_read on.h ≡ read.Pending (examined on.h)
 
-pub idle : (job : Job) (sb s : SourceState) (kb k : SinkState) (f : FillState) (d d' : DrainState) (p p' : Pipe) (ending : Option FillEnd) (n : ℕ) (k' : SinkState) → Pumps job sb s kb k f d p ending → DrainsOnce HoldsFor reader_of d p k (Idle n) d' p' k' → AtRest job sb s kb k' f d' p' ending
-idle job sb s kb k f d d' p p' ending n k' on once =
+pub idle : (job : Job) (sb s : SourceState) (kb k : SinkState) (f : FillingState) (d d' : DrainingState) (p p' : Local) (ending : Option FillEnd) (n : ℕ) (k' : SinkState) → IsNone p'.pipe.control.gone → Pumps job sb s kb k f d p ending → Drains d p k (Idle n) d' p' k' → AtRest job sb s kb k' f d' p' ending
+idle job sb s kb k f d d' p p' ending n k' gone on once =
     let h = on.h in
-    let rests = once.cause h on.text on.holds on.goes.drained in
-    let waiting = waits h n (once.asked h on.holds) in
+    let a = once.cause h on.text on.holds (so_far d h on.text on.fresh on.goes.drained) in
+    let idles = a.how.0 in
+    let found = later_same h idles.found idles.later in
+    let told = subst (λ (x : List Call). reply_to_read x ≡ read.Pending n) found idles.told in
+    let waiting = waits h n told in
+    let now : a.now ≡ Read ∷ h = idles.is ∙ ap (λ (x : List Call). Read ∷ x) found in
+    let kept = same_aside p p' once.kept in
+    let drained = on.goes.drained in
     record {
       on = record {
         h = Read ∷ h;
         text = on.text;
-        holds = subst (λ (calls : List Call). HoldsFor p' (calls ++ h)) rests.calls_are (once.stands h on.holds);
+        holds = subst (λ (x : List Call). HoldsFor p'.pipe x) now a.stands;
         goes = record {
-          drained = subst (λ (calls : List Call). IsDrained d' (calls ++ h) on.text) rests.calls_are rests.drained;
+          drained = subst (λ (e : DrainingState). IsDrained e.drained (Read ∷ h) on.text) (sym idles.unchanged) (record { place = drained.place; passes = drained.passes; rest = drained.rest; short = drained.short; counted = drained.counted; known = drained.known; unended = drained.unended });
           kept = on.goes.kept;
           attended = on.goes.attended;
           no_lend = none_lent h waiting;
           uncanceled = refl;
         };
+        fresh = ap (λ e. e.owed) idles.unchanged ∙ on.fresh;
         taken = on.taken;
         counted = on.counted;
+        drafted = on.drafted;
         limit = on.limit;
         job_is = once.job ∙ on.job_is;
-        wrote = subst (λ (t : List ℕ). Takes kb t k') (append-nil on.text) (Takes-trans kb k k' on.text [] on.wrote (subst (λ (t : List ℕ). Takes k t k') rests.none once.gained));
+        wrote = subst (λ (t : List ℕ). Takes kb t k') (append-nil on.text) (Takes-trans kb k k' on.text [] on.wrote (subst (λ (t : List ℕ). Takes k t k') idles.none (gained d k k' once.gain on.fresh once.gained)));
         ended = on.ended;
         not_gone = on.not_gone;
-        draft = ap (λ x. x.draft) once.writing ∙ on.draft;
-        room = omega (arith, on.room, ap (λ x. x.capacity) once.shape);
-        thresholds = rw (ap (λ x. x.pause) once.shape, ap (λ x. x.resume) once.shape) on.thresholds;
+        draft = ap (λ a. a.draft) kept ∙ on.draft;
+        room = subst (λ (o : Options). longest_frame job.input job.max ≤ room_of o) (sym (ap (λ a. a.options) kept)) on.room;
+        thresholds = subst (λ (o : Options). AreThresholds o.pause o.resume) (sym (ap (λ a. a.options) kept)) on.thresholds;
       };
       none_yet = none_of ending (sym on.ended ∙ goes_yet h waiting);
-      all_seen = rests.all_seen;
+      all_seen = pending_says h n on.holds.marks.legal told;
       waits = waits_again h waiting;
     }
   where
@@ -250,19 +349,22 @@ idle job sb s kb k f d d' p p' ending n k' on once =
     none_of None is = refl
     none_of (Some end) is = absurd cc
 
-pub rest_open : (job : Job) (sb s : SourceState) (kb k : SinkState) (f : FillState) (d : DrainState) (p : Pipe) (ending : Option FillEnd) → AtRest job sb s kb k f d p ending → p.control.ended ≡ None
+pub rest_open : (job : Job) (sb s : SourceState) (kb k : SinkState) (f : FillingState) (d : DrainingState) (p : Local) (ending : Option FillEnd) → AtRest job sb s kb k f d p ending → p.pipe.control.ended ≡ None
 rest_open job sb s kb k f d p ending rest = rest.on.holds.marks.ended ∙ rest.on.ended ∙ ap (λ (o : Option FillEnd). option_map end_code o) rest.none_yet
 
-pub rest_own : (job : Job) (sb s : SourceState) (kb k : SinkState) (f : FillState) (d : DrainState) (p : Pipe) (ending : Option FillEnd) → AtRest job sb s kb k f d p ending → p.control.committed ≤ f.taken
-rest_own job sb s kb k f d p ending rest = omega (arith, rest.on.holds.marks.committed, rest.on.counted)
-
 -- a relay whose pipe rests has one step more than what a fill step leaves
-pub rest_less : (job : Job) (sb s : SourceState) (kb k : SinkState) (f : FillState) (d d' : DrainState) (p p' : Pipe) (ending : Option FillEnd) (n : ℕ) (k' : SinkState) (left : ℕ) → Pumps job sb s kb k f d p ending → DrainsOnce HoldsFor reader_of d p k (Idle n) d' p' k'
-    → left + 1 ≤ 2 * (f.limit - f.taken) + 1 → left < fuel f p ending
-rest_less job sb s kb k f d d' p p' ending n k' left on once less =
-    let rest = idle job sb s kb k f d d' p p' ending n k' on once in
-    open_more ending rest.none_yet
-  where
-    open_more : (o : Option FillEnd) → o ≡ None → left < fuel f p o
-    open_more None none = omega (arith, less)
-    open_more (Some end) none = absurd cc
+pub rest_less : (f : FillingState) (p : Local) (ending : Option FillEnd) (left : ℕ) → ending ≡ None → left + 1 ≤ 2 * (f.limit - f.taken) + 1 → left < fuel f p ending
+rest_less f p None left none less = omega (arith, less)
+rest_less f p (Some end) left none less = absurd cc
+
+-- a read was not refused
+pub never_refused : (job : Job) (sb s : SourceState) (kb k k' : SinkState) (f : FillingState) (d d' : DrainingState) (p p' : Local) (ending : Option FillEnd) (fault : TryFault) → Pumps job sb s kb k f d p ending → DrainsOnce HoldsLocal NoOthers RefusesNone lent_local aside_local d p k (Err fault) d' p' k' → ⊥
+never_refused job sb s kb k k' f d d' p p' ending fault on once = (once.cause on.h on.text on.holds (so_far d on.h on.text on.fresh on.goes.drained)).how.1.1
+
+-- where the next step of the drainer may come
+pub lends_none : (d' : DrainingState) (p' : Local) → d'.owed ≡ None → lent_local p' ≡ lent_for d'.owed → lent_local p' ≡ None
+lends_none d' p' fresh lends = lends ∙ ap (λ (o : Option Owed). lent_for o) fresh
+
+-- the parts of the next step's conditions
+pub may_drain : (job : Job) (sb s : SourceState) (kb k : SinkState) (f : FillingState) (d : DrainingState) (p : Local) (ending : Option FillEnd) → Pumps job sb s kb k f d p ending → (h : List Call) × (text : List ℕ) × HoldsLocal p h × HasPassed d h text
+may_drain job sb s kb k f d p ending on = (on.h, on.text, on.holds, so_far d on.h on.text on.fresh on.goes.drained)

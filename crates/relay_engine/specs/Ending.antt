@@ -1,8 +1,8 @@
 -- How a relay ends, from how each side did.
 use Rattle.std.specs.Prelude.{Bool, true, false}
 use Rattle.frame_model.specs.Cut.{Verdict, Open, End, Rest, Bad}
-use Rattle.relay_engine.specs.declared.drainer.DrainEnd.{DrainEnd}
-use Rattle.relay_engine.specs.declared.drainer.DrainEnd.TheVariants as ends
+use Rattle.relay_engine.specs.declared.drain_end.DrainEnd.{DrainEnd}
+use Rattle.relay_engine.specs.declared.drain_end.DrainEnd.TheVariants as ends
 
 -- a write or a flush failed
 abbrev pub is_sink_fault : DrainEnd → Bool

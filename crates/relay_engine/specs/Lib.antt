@@ -2,8 +2,17 @@ pub mod Frames
 pub mod Gathering
 pub mod Tell
 pub mod Ends
+pub mod Later
+pub mod LocalEnds
+pub mod ReaderEnds
+pub mod WriterEnds
 pub mod Filler
 pub mod Drainer
 pub mod Passing
 pub mod Ending
 pub mod Pump
+pub mod Sides
+pub mod Filling
+pub mod PipeFiller
+pub mod Draining
+pub mod PipeDrainer

@@ -1,10 +1,33 @@
 -- How a relay on one thread goes on.
-use Rattle.std.specs.Prelude.{Option, Some, None}
+use Rattle.std.specs.Prelude.{ℕ, ◌≡◌, List, [], Option, Some, None, Ok}
+use Rattle.edge_core.specs.Device.{SourceState}
+use Rattle.frame_model.specs.declared.job.Job.{Job}
 use Rattle.frame_model.specs.declared.ending.FillEnd.{FillEnd}
-use Rattle.relay_engine.specs.declared.filler.FillStep.{FillStep}
-use Rattle.relay_engine.specs.declared.filler.FillStep.TheVariants.{Done}
+use Rattle.frame_model.specs.Job.{segments}
+use Rattle.pipe_core.specs.declared.reply.Wake.{Wake}
+use Rattle.pipe_core.specs.History.{Call}
+use Rattle.pipe_shared.specs.declared.options.Options.{Options}
+use Rattle.pipe_shared.specs.Local.{Local, LocalCompletes}
+use Rattle.relay_engine.specs.Filler.{end_code}
+use Rattle.relay_engine.specs.Filling.{FillingState, FillsOn}
+use Rattle.relay_engine.specs.WriterEnds.{IsLocalFull, local_drafting}
+use Rattle.relay_engine.specs.LocalEnds.{HoldsLocal, NoOthers, RefusesNone}
+use Rattle.relay_engine.specs.declared.filling.Filled.{Filled}
+use Rattle.relay_engine.specs.declared.filling.Filled.TheVariants.{Ended}
 
--- how the taking ended with a step, if it did
-abbrev pub ended_by : FillStep → Option FillEnd
-ended_by (Done end) = Some end
-ended_by step = None
+-- the pipe of a relay: its segments are as large as the job asks, and there are enough for a greatest frame and for a pause
+abbrev pub options_for : Job → Options
+options_for job = record { segment = job.seg; segments = segments job; pause = job.pause; resume = job.resume }
+
+-- The writer has completed where the taking has ended.
+abbrev pub EndsBy : Filled → Local → Option FillEnd → Local → Type 0
+EndsBy (Ended end) middle result p' = (result ≡ Some end) × ((wake : Wake) × LocalCompletes middle middle.pipe.bytes.draft (end_code end) wake p')
+EndsBy filled middle result p' = (result ≡ None) × (p' ≡ middle)
+
+-- One step of the filler, by which no call is refused, and the writer's completion, where the taking has ended.
+pub record FillsLocal (f : FillingState) (p : Local) (before : SourceState) (result : Option FillEnd) (f' : FillingState) (p' : Local) (after : SourceState) (h : List Call) (bytes : List ℕ) : Type 0 where
+  pub filled : Filled
+  pub middle : Local
+  pub once : FillsOn HoldsLocal NoOthers local_drafting RefusesNone p.options (IsLocalFull tt) f p before (Ok filled) f' middle after h bytes
+  pub settled : middle.pipe.bytes.draft ≡ []
+  pub ends : EndsBy filled middle result p'

@@ -4,7 +4,7 @@ ghost use Rattle.std.specs.Prelude.{◌≡◌};
 ghost use Rattle.frame_model.specs.Ending.{outcome_of as outcome_in, status_of as status_in};
 ghost use Rattle.relay_engine.specs.Ending.{is_sink_fault, verdict_for};
 
-use crate::drainer::DrainEnd;
+use crate::drain_end::DrainEnd;
 use frame_model::{FillEnd, Outcome};
 
 /// How a relay ends whose sides end so: for a failed write, else for a bad frame, else for a failed read, else for the limit,

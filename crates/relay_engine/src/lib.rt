@@ -2,23 +2,38 @@
 //! the pipe lends to a sink, both in steps that may come in any order, and the relay on one thread that runs both.
 #![tactic(auto)]
 
-mod drainer;
+mod drain_end;
+mod drain_pipe;
+mod draining;
 mod ending;
-mod ends;
-mod filler;
+mod fill_pipe;
+mod fill_side;
+mod filling;
 mod frames;
 mod gathering;
 mod laws;
 mod lines;
-mod plain;
+mod local_reader;
+mod local_writer;
+mod pipe_drainer;
+mod pipe_filler;
 mod pump;
+mod reading;
+mod shared_reader;
+mod shared_writer;
 
-pub use drainer::{DrainEnd, DrainStep, Drainer};
+pub use drain_end::DrainEnd;
 pub use ending::{outcome_of, status_of};
-pub use filler::{FillStep, Filler};
+pub use fill_side::fill;
 pub use laws::{drained_at_first, drained_behind_others, drained_is_a_front};
 pub use lines::{Told, tell};
-pub use pump::pump_local;
+pub use pipe_drainer::{DrainStep, Drainer, drain};
+pub use pipe_filler::{FillStep, Filler};
+pub use pump::{options_of, pump_local};
 
+#[cfg(test)]
+mod drain_tests;
+#[cfg(test)]
+mod fill_tests;
 #[cfg(test)]
 mod tests;

@@ -1,21 +1,29 @@
 //! A relay on one thread.
 
-ghost use Rattle.std.specs.Prelude.{◌≡◌, ◌^◌, ◌≤◌, [], None, IfOk, OnErr};
+ghost use Rattle.std.specs.Prelude.{◌≡◌, ◌*◌, ◌^◌, ◌≤◌, ℕ, List, [], Some, None, IsNone, IfOk, OnErr};
 ghost use Rattle.frame_model.specs.Job.{IsInRange};
 ghost use Rattle.frame_model.specs.Spelling.{longest_frame};
 ghost use Rattle.relay_model.specs.Run.{IsReported};
-ghost use Rattle.pipe_core.specs.Bytes.{capacity_of};
+ghost use Rattle.pipe_core.specs.History.{Call};
 ghost use Rattle.pipe_core.specs.Pipe.{HoldsFor};
 ghost use Rattle.pipe_core.specs.Standing.{AreThresholds};
-ghost use Rattle.relay_engine.specs.Pump.{ended_by};
+ghost use Rattle.pipe_core.specs.declared.reply.Wake.{Wake};
+ghost use Rattle.pipe_shared.specs.Options.{first_bad, room_of};
+ghost use Rattle.pipe_shared.specs.Local.{LocalCompletes};
+ghost use Rattle.relay_engine.specs.Filling.{HasTaken};
+ghost use Rattle.relay_engine.specs.WriterEnds.{local_drafting};
+ghost use Rattle.relay_engine.specs.LocalEnds.{HoldsLocal};
+ghost use Rattle.relay_engine.specs.Pump.{FillsLocal, options_for};
 
-use crate::drainer::{DrainStep, Drainer};
+use crate::draining::{Draining, Progress};
 use crate::ending::outcome_of;
-use crate::filler::{FillStep, Filler};
+use crate::filling::{Filled, Filling};
+use crate::pipe_filler::code_of;
 use edge_core::{Sink, Source};
 use frame_grammar::{Job, segments_of};
 use frame_model::{FillEnd, Report};
-use pipe_core::{PlainPipe, never_both};
+use pipe_core::never_both;
+use pipe_shared::{LocalPipe, MakeError, Options};
 use std::alloc::{AllocError, Global};
 
 /// Relays a source to a sink, and reports how that ended. It takes its memory before the first read, and want of it is the
@@ -33,48 +41,105 @@ pub fn pump_local<S: Source, K: Sink>(
     ensures source_untouched { OnErr result (S.state source.new ≡ S.state source.old) }
     ensures sink_untouched { OnErr result (K.state sink.new ≡ K.state sink.old) }
 {
-    let capacity = segments_of(job) * job.seg;
-    let mut pipe = PlainPipe::make(alloc, capacity, job.pause, job.resume)?;
-    Ok(pump(job, &mut pipe, source, sink))
+    match LocalPipe::make(alloc, options_of(job)) {
+        Ok(pipe) => {
+            let mut pipe = pipe;
+            Ok(pump(job, &mut pipe, source, sink))
+        }
+        Err(MakeError::OutOfMemory) => Err(AllocError),
+        Err(MakeError::BadOptions { .. }) => unreachable!(),
+    }
+}
+
+/// How the pipe of a relay is made: its segments are as large as the job asks, and there are enough for a greatest frame and
+/// for a pause.
+pub fn options_of(job: &Job) -> Options
+    requires { IsInRange job.now }
+    ensures options { result ≡ options_for job.now }
+    ensures good { first_bad result ≡ None }
+    ensures size { result.segments * result.segment ≤ 2 ^ 31 }
+    ensures room { longest_frame job.now.input job.now.max ≤ room_of result }
+{
+    Options {
+        segment: job.seg,
+        segments: segments_of(job),
+        pause: job.pause,
+        resume: job.resume,
+    }
 }
 
 /// Relays a source to a sink through a pipe that is new.
-fn pump<S: Source, K: Sink>(job: &Job, pipe: &mut PlainPipe, source: &mut S, sink: &mut K) -> Report
+fn pump<S: Source, K: Sink>(job: &Job, pipe: &mut LocalPipe, source: &mut S, sink: &mut K) -> Report
     requires range { IsInRange job.now }
-    requires stands { HoldsFor pipe.old [] }
-    requires draft { pipe.old.bytes.draft ≡ [] }
-    requires room { longest_frame job.now.input job.now.max ≤ capacity_of pipe.old.bytes }
-    requires thresholds { AreThresholds pipe.old.control.pause pipe.old.control.resume }
+    requires stands { HoldsFor pipe.old.pipe [] }
+    requires draft { pipe.old.pipe.bytes.draft ≡ [] }
+    requires room { longest_frame job.now.input job.now.max ≤ room_of pipe.old.options }
+    requires thresholds { AreThresholds pipe.old.options.pause pipe.old.options.resume }
     ensures { IsReported job.now result (S.state source.old) (S.state source.new) (K.state sink.old) (K.state sink.new) }
 {
     never_both();
-    let mut filler = Filler::new(job.limit, job.seg);
-    let mut drainer = Drainer::new(job);
+    let mut filling = Filling::new(job.limit);
+    let mut draining = Draining::new(job);
     let mut ending = None;
     loop {
-        match drainer.step(pipe, sink) {
-            DrainStep::Moved { .. } => {}
-            DrainStep::Idle { .. } => ending = end_of(filler.step(pipe, source)),
-            DrainStep::Done(end) => {
+        match draining.step(&(), pipe, sink) {
+            Ok(Progress::Moved { .. }) => {}
+            Ok(Progress::Idle { .. }) => ending = fill_once(&mut filling, pipe, source),
+            Ok(Progress::Ended(end)) => {
                 // Where the reader is gone before the input's end, no flush need tell the filler so: no more is read.
                 let taking = ending.unwrap_or(FillEnd::Gone { code: end.code() });
                 return Report {
                     outcome: outcome_of(taking, end),
-                    frames: drainer.frames(),
-                    taken: filler.taken(),
-                    written: drainer.written(),
+                    frames: draining.frames(),
+                    taken: filling.taken(),
+                    written: draining.written(),
                 };
             }
+            Err(_) => unreachable!(),
         }
     }
 }
 
-/// How the taking ended with a step, if it did.
-fn end_of(step: FillStep) -> Option<FillEnd>
-    ensures { result ≡ ended_by step }
+/// Takes more, once. Where the taking has ended the writer has completed.
+fn fill_once<S: Source>(
+    filling: &mut Filling,
+    pipe: &mut LocalPipe,
+    source: &mut S,
+) -> Option<FillEnd>
+    requires open { IsNone pipe.old.pipe.control.ended }
+    requires holds { (h : List Call) × (bytes : List ℕ) × HasTaken HoldsLocal local_drafting filling.old pipe.old h bytes }
+    ensures fills { (h : List Call) (bytes : List ℕ) → HasTaken HoldsLocal local_drafting filling.old pipe.old h bytes →
+        FillsLocal filling.old pipe.old (S.state source.old) result filling.new pipe.new (S.state source.new) h bytes }
+    ensures options { pipe.new.options ≡ pipe.old.options }
+    ensures draft { pipe.new.pipe.bytes.draft ≡ [] }
+    ensures limit { filling.new.limit ≡ filling.old.limit }
+    ensures within { filling.new.taken ≤ filling.new.limit }
+    ensures gone { pipe.new.pipe.control.gone ≡ pipe.old.pipe.control.gone }
+    ensures lent { pipe.new.pipe.control.lent ≡ pipe.old.pipe.control.lent }
 {
-    match step {
-        FillStep::Done(end) => Some(end),
-        _ => None,
+    match filling.step(&(), pipe, source) {
+        Ok(Filled::Ended(end)) => {
+            complete(pipe, code_of(end));
+            Some(end)
+        }
+        Ok(Filled::Moved { .. } | Filled::Paused { .. } | Filled::Full { .. }) => None,
+        Err(_) => unreachable!(),
+    }
+}
+
+/// Completes the writer, which has drafted nothing.
+fn complete(pipe: &mut LocalPipe, code: u32)
+    requires open { IsNone pipe.old.pipe.control.ended }
+    requires settled { pipe.old.pipe.bytes.draft ≡ [] }
+    requires small { pipe.old.pipe.control.committed ≤ 2 ^ 62 }
+    ensures completes { (wake : Wake) × LocalCompletes pipe.old pipe.old.pipe.bytes.draft code wake pipe.new }
+    ensures options { pipe.new.options ≡ pipe.old.options }
+    ensures draft { pipe.new.pipe.bytes.draft ≡ [] }
+    ensures gone { pipe.new.pipe.control.gone ≡ pipe.old.pipe.control.gone }
+    ensures lent { pipe.new.pipe.control.lent ≡ pipe.old.pipe.control.lent }
+{
+    match pipe.end_writer(code) {
+        Ok(_) => {}
+        Err(_) => unreachable!(),
     }
 }

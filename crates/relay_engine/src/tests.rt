@@ -3,10 +3,9 @@
 ghost use Rattle.std.specs.Prelude.{◌≤◌, ◌^◌};
 ghost use Rattle.frame_model.specs.Job.{IsInRange};
 
-use crate::*;
+use crate::{DrainEnd, Told, outcome_of, pump_local, status_of, tell};
 use edge_core::{MemSink, MemSource};
 use frame_model::{BadKind, FillEnd, Framing, Job, Outcome, Report};
-use pipe_core::PlainPipe;
 use std::alloc::{AllocError, Global};
 use std::test::Fail;
 
@@ -51,26 +50,6 @@ fn report(outcome: Outcome, frames: u64, taken: u64, written: u64) -> Report {
         taken,
         written,
     }
-}
-
-#[test]
-fn a_step_fills_a_pipe_and_a_step_drains_it(rt: HostRuntime) -> Result<(), Fail> {
-    let alloc = rt.alloc();
-    let mut pipe = PlainPipe::make(alloc, 16, 8, 4)?;
-    let mut source = source(alloc, TWO_FRAMES, &[])?;
-    let mut sink = sink(alloc, &[])?;
-    let mut filler = Filler::new(20, 8);
-    let mut drainer = Drainer::new(&job(Framing::Len4, Framing::Line, 20));
-    let filled = filler.step(&mut pipe, &mut source);
-    assert_eq!(rt; filled, FillStep::Paused { unexamined: 8 });
-    let drained = drainer.step(&mut pipe, &mut sink);
-    assert_eq!(rt; drained, DrainStep::Moved { frames: 1 });
-    assert_eq!(rt; sink.bytes(), b"hi\n".as_slice());
-    assert_eq!(rt;
-        (filler.taken(), drainer.frames(), drainer.written()),
-        (8, 1, 3)
-    );
-    Ok(())
 }
 
 #[test]
@@ -137,20 +116,6 @@ fn a_read_that_fails_ends_the_taking(rt: HostRuntime) -> Result<(), Fail> {
     Ok(())
 }
 
-#[test]
-fn nothing_is_read_where_there_is_no_room(rt: HostRuntime) -> Result<(), Fail> {
-    let alloc = rt.alloc();
-    let mut pipe = PlainPipe::make(alloc, 0, 8, 4)?;
-    let mut source = source(alloc, TWO_FRAMES, &[1])?;
-    let mut filler = Filler::new(0, 8);
-    assert_eq!(rt;
-        filler.step(&mut pipe, &mut source),
-        FillStep::Full { capacity: 0 }
-    );
-    Ok(())
-}
-
-/// The sink takes a byte by each call.
 #[test]
 fn a_frame_that_was_broken_off_is_not_counted(rt: HostRuntime) -> Result<(), Fail> {
     let alloc = rt.alloc();

@@ -43,16 +43,16 @@ abbrev pub IsDropped : FillEnd → List ℕ → Type 0
 IsDropped taking.Long bytes = length bytes ≡ 1
 IsDropped ending bytes = bytes ≡ []
 
--- The run took what left the source, and the taking ended for the reason that it says.
-pub record IsTaken (job : Job) (run : Run) (before after : SourceState) : Type 0 where
+-- These bytes, at most so many, were taken and left the source, and the taking ended for this reason.
+pub record IsTaken (limit : ℕ) (taken : List ℕ) (ending : FillEnd) (before after : SourceState) : Type 0 where
   pub dropped : List ℕ
-  pub dropping : IsDropped run.ending dropped
-  pub given : Consumes before.left after.left (run.taken ++ dropped)
-  pub within : length run.taken ≤ job.limit
-  pub end : run.ending ≡ taking.End → IsAtEnd after.left
-  pub long : run.ending ≡ taking.Long → length run.taken ≡ job.limit
-  pub fault : run.ending ≡ taking.Fault → HasRisen before.faults after.faults
-  pub unfailed : run.ending ≢ taking.Fault → after.faults ≡ before.faults
+  pub dropping : IsDropped ending dropped
+  pub given : Consumes before.left after.left (taken ++ dropped)
+  pub within : length taken ≤ limit
+  pub end : ending ≡ taking.End → IsAtEnd after.left
+  pub long : ending ≡ taking.Long → length taken ≡ limit
+  pub fault : ending ≡ taking.Fault → HasRisen before.faults after.faults
+  pub unfailed : ending ≢ taking.Fault → after.faults ≡ before.faults
 
 -- The run wrote what came to the sink: the whole translation, or where a write or a flush failed a front of it.
 pub record IsPassedOn (job : Job) (run : Run) (before after : SinkState) : Type 0 where
@@ -64,7 +64,7 @@ pub record IsPassedOn (job : Job) (run : Run) (before after : SinkState) : Type 
 
 -- The run is what passed from the source to the sink. The taking goes on until a frame is bad or a write fails.
 pub record IsRun (job : Job) (run : Run) (source_before source_after : SourceState) (sink_before sink_after : SinkState) : Type 0 where
-  pub taken : IsTaken job run source_before source_after
+  pub taken : IsTaken job.limit run.taken run.ending source_before source_after
   pub passed_on : IsPassedOn job run sink_before sink_after
   pub gone : (code : ℕ) → run.ending ≡ taking.Gone code → (status_of (outcome job run) ≡ 2) ⊎ (status_of (outcome job run) ≡ 5)
 

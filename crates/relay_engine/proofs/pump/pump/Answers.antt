@@ -1,39 +1,59 @@
 -- Step by step.
-use Rattle.std.proofs.Common.{refl}
-use Rattle.relay_engine.proofs.PumpLemmas.{idle, moved_less, moved_on, rest_less, rest_open, rest_own, starts}
-use Rattle.relay_engine.proofs.PumpFillLemmas.{filled}
+use Rattle.std.proofs.Common.{◌∙◌, refl}
+use Rattle.pipe_core.specs.Progress.{total}
+use Rattle.relay_engine.proofs.PumpLemmas.{idle, lends_none, moved_less, moved_on, never_refused, rest_less, rest_open, starts}
+use Rattle.relay_engine.proofs.PumpFillLemmas.{filled, rest_taken}
 use Rattle.relay_engine.proofs.PumpEndLemmas.{finished}
 use Rattle.relay_engine.proofs.pump.pump.Goals as goal
 
-pub loop-filler-init : goal.loop-filler-init
-loop-filler-init g c = starts _ _ _ _ _ _ c.new-filler.ensures c.new-drainer.ensures c.requires.stands c.requires.draft c.requires.room c.requires.thresholds
+pub loop-filling-init : goal.loop-filling-init
+loop-filling-init g c = record {
+  pumps = starts _ _ _ _ _ _ c.new-filling.ensures c.new-draining.ensures c.requires.stands c.requires.draft c.requires.room c.requires.thresholds;
+  attended = rw (c.requires.stands.marks.gone) refl;
+  no_lend = c.requires.stands.marks.lent;
+}
 
-pub loop-filler-smaller-in-Moved : goal.loop-filler-smaller-in-Moved
-loop-filler-smaller-in-Moved g c = moved_less _ _ _ _ _ _ c.loop-filler.filler _ _ _ _ c.loop-filler.ending _ c.loop-filler.invariant c.in-Moved.ensures
+pub loop-filling-smaller-in-Ok-Moved : goal.loop-filling-smaller-in-Ok-Moved
+loop-filling-smaller-in-Ok-Moved g c =
+    moved_less _ _ _ _ _ _ c.loop-filling.filling _ c.step.new.self _ c.step.new.end c.loop-filling.ending c.in-Ok-Moved.field-0-0 c.in-Ok-Moved.ensures.may c.loop-filling.invariant.pumps (rw c.in-Ok-Moved.field-0-is at c.in-Ok-Moved.ensures.step)
 
-pub loop-filler-preserved-in-Moved : goal.loop-filler-preserved-in-Moved
-loop-filler-preserved-in-Moved g c = moved_on _ _ _ _ _ _ c.loop-filler.filler _ _ _ _ c.loop-filler.ending _ c.loop-filler.invariant c.in-Moved.ensures
+pub loop-filling-preserved-in-Ok-Moved : goal.loop-filling-preserved-in-Ok-Moved
+loop-filling-preserved-in-Ok-Moved g c =
+    let once = rw c.in-Ok-Moved.field-0-is at c.in-Ok-Moved.ensures.step in
+    let on = moved_on _ _ _ _ _ _ c.loop-filling.filling _ c.step.new.self _ c.step.new.end c.loop-filling.ending c.in-Ok-Moved.field-0-0 c.in-Ok-Moved.ensures.may c.loop-filling.invariant.pumps once in
+    record { pumps = on; attended = c.in-Ok-Moved.ensures.may; no_lend = lends_none c.step.new.self c.step.new.end on.fresh once.lends }
 
-pub step-requires-in-Idle-clause-open : goal.step-requires-in-Idle-clause-open
-step-requires-in-Idle-clause-open g c =
-    rw (rest_open _ _ _ _ _ _ _ _ _ (idle _ _ _ _ _ c.loop-filler.filler _ _ _ _ c.loop-filler.ending _ _ c.loop-filler.invariant c.in-Idle.ensures)) refl
+pub fill_once-ending-requires-clause-open : goal.fill_once-ending-requires-clause-open
+fill_once-ending-requires-clause-open g c =
+    rw (rest_open _ _ _ _ _ _ _ _ _ (idle _ _ _ _ _ c.loop-filling.filling _ c.step.new.self _ c.step.new.end c.loop-filling.ending c.in-Ok-Idle.field-0-0 _ c.in-Ok-Idle.ensures.may c.loop-filling.invariant.pumps (rw c.in-Ok-Idle.field-0-is at c.in-Ok-Idle.ensures.step))) refl
 
-pub step-requires-in-Idle-clause-own : goal.step-requires-in-Idle-clause-own
-step-requires-in-Idle-clause-own g c =
-    rest_own _ _ _ _ _ _ _ _ _ (idle _ _ _ _ _ c.loop-filler.filler _ _ _ _ c.loop-filler.ending _ _ c.loop-filler.invariant c.in-Idle.ensures)
+pub fill_once-ending-requires-clause-holds : goal.fill_once-ending-requires-clause-holds
+fill_once-ending-requires-clause-holds g c =
+    let rest = idle _ _ _ _ _ c.loop-filling.filling _ c.step.new.self _ c.step.new.end c.loop-filling.ending c.in-Ok-Idle.field-0-0 _ c.in-Ok-Idle.ensures.may c.loop-filling.invariant.pumps (rw c.in-Ok-Idle.field-0-is at c.in-Ok-Idle.ensures.step) in
+    (rest.on.h, total rest.on.h, rest_taken _ _ _ _ _ _ _ _ _ rest)
 
-pub loop-filler-smaller : goal.loop-filler-smaller
-loop-filler-smaller g c =
-    let rest = idle _ _ _ _ _ c.loop-filler.filler _ _ _ _ c.loop-filler.ending _ _ c.loop-filler.invariant c.in-Idle.ensures in
-    let full = filled _ _ _ _ _ _ _ _ _ _ _ _ c.step-in-Idle.result c.never_both.ensures rest c.step-in-Idle.ensures in
-    rw c.end_of-ending.ensures (rest_less _ _ _ _ _ c.loop-filler.filler _ _ _ _ c.loop-filler.ending _ _ _ c.loop-filler.invariant c.in-Idle.ensures full.less)
+pub loop-filling-smaller : goal.loop-filling-smaller
+loop-filling-smaller g c =
+    let e = c.fill_once-ending.ensures in
+    let rest = idle _ _ _ _ _ c.loop-filling.filling _ c.step.new.self _ c.step.new.end c.loop-filling.ending c.in-Ok-Idle.field-0-0 _ c.in-Ok-Idle.ensures.may c.loop-filling.invariant.pumps (rw c.in-Ok-Idle.field-0-is at c.in-Ok-Idle.ensures.step) in
+    let full = filled _ _ _ _ _ _ _ _ _ _ _ _ c.fill_once-ending.result c.never_both.ensures rest (e.fills rest.on.h (total rest.on.h) (rest_taken _ _ _ _ _ _ _ _ _ rest)) (record { options = e.options; draft = e.draft; limit = e.limit; within = e.within }) in
+    rest_less c.loop-filling.filling c.loop-filling.pipe c.loop-filling.ending _ rest.none_yet full.less
 
-pub loop-filler-preserved : goal.loop-filler-preserved
-loop-filler-preserved g c =
-    let rest = idle _ _ _ _ _ c.loop-filler.filler _ _ _ _ c.loop-filler.ending _ _ c.loop-filler.invariant c.in-Idle.ensures in
-    rw c.end_of-ending.ensures (filled _ _ _ _ _ _ _ _ _ _ _ _ c.step-in-Idle.result c.never_both.ensures rest c.step-in-Idle.ensures).on
+pub loop-filling-preserved : goal.loop-filling-preserved
+loop-filling-preserved g c =
+    let e = c.fill_once-ending.ensures in
+    let rest = idle _ _ _ _ _ c.loop-filling.filling _ c.step.new.self _ c.step.new.end c.loop-filling.ending c.in-Ok-Idle.field-0-0 _ c.in-Ok-Idle.ensures.may c.loop-filling.invariant.pumps (rw c.in-Ok-Idle.field-0-is at c.in-Ok-Idle.ensures.step) in
+    let full = filled _ _ _ _ _ _ _ _ _ _ _ _ c.fill_once-ending.result c.never_both.ensures rest (e.fills rest.on.h (total rest.on.h) (rest_taken _ _ _ _ _ _ _ _ _ rest)) (record { options = e.options; draft = e.draft; limit = e.limit; within = e.within }) in
+    record {
+      pumps = full.on;
+      attended = rw (e.gone) c.in-Ok-Idle.ensures.may;
+      no_lend = e.lent ∙ lends_none c.step.new.self c.step.new.end rest.on.fresh (rw c.in-Ok-Idle.field-0-is at c.in-Ok-Idle.ensures.step).lends;
+    }
 
-pub returns-in-Done : goal.returns-in-Done
-returns-in-Done g c =
+pub returns-in-Ok-Ended : goal.returns-in-Ok-Ended
+returns-in-Ok-Ended g c =
     rw (c.outcome_of.ensures, c.unwrap_or-taking.ensures, c.code.ensures, c.frames.ensures, c.taken.ensures.taken, c.written.ensures)
-    (finished _ _ _ _ _ _ c.loop-filler.filler _ _ _ _ c.loop-filler.ending c.in-Done.end c.requires.range.limit c.loop-filler.invariant c.in-Done.ensures)
+    (finished _ _ _ _ _ _ c.loop-filling.filling _ c.step.new.self _ c.step.new.end c.loop-filling.ending c.in-Ok-Ended.end c.requires.range.limit c.loop-filling.invariant.pumps (rw c.in-Ok-Ended.field-0-is at c.in-Ok-Ended.ensures.step))
+
+pub unreachable-requires : goal.unreachable-requires
+unreachable-requires g c = never_refused _ _ _ _ _ _ c.loop-filling.filling _ c.step.new.self _ c.step.new.end c.loop-filling.ending c.in-Err.field-0 c.loop-filling.invariant.pumps c.in-Err.ensures.step

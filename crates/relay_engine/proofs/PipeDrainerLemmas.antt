@@ -1,0 +1,351 @@
+-- The steps of a drainer on a pipe for two threads.
+use Rattle.std.proofs.Common.{◌≡◌, ℕ, Bool, true, false, List, [], ◌∷◌, ◌++◌, Option, Some, None, IsSomeAnd, Result, Ok, Err, refl, sym, ap, ◌∙◌, subst, append-nil}
+use Rattle.std.specs.Prelude.{length, option_map, unwrap_or}
+use Rattle.std.proofs.KnownBytes.{Appends-trans}
+use Rattle.edge_core.specs.Device.{SinkState, Takes}
+use Rattle.edge_core.proofs.DeviceLemmas.{Takes-trans}
+use Rattle.turn_cell.specs.Seat.{CellState, IsIdle}
+use Rattle.pipe_core.specs.History.{Call, EndReader}
+use Rattle.pipe_core.specs.Legal.{IsLegal}
+use Rattle.pipe_shared.specs.declared.faults.TryFault.{TryFault}
+use Rattle.pipe_shared.specs.declared.faults.TryFault.TheVariants as try
+use Rattle.pipe_shared.specs.Log.{calls_of}
+use Rattle.pipe_core.specs.declared.reply.Wake.{Wake}
+use Rattle.pipe_core.specs.Answers.{Woke}
+use Rattle.frame_model.specs.declared.job.Job.{Job}
+use Rattle.pipe_shared.specs.declared.options.Options.{Options}
+use Rattle.pipe_shared.specs.Heard.{CallsBehind}
+use Rattle.pipe_shared.specs.Turns.{Makes, Refuses, Seat}
+use Rattle.pipe_shared.specs.Ends.{Reader}
+use Rattle.relay_engine.specs.Drainer.{IsDrained, end_code}
+use Rattle.relay_engine.specs.Ending.{is_sink_fault}
+use Rattle.relay_engine.specs.Sides.{Concludes, HasDrained}
+use Rattle.relay_engine.specs.Sides.{GainsBy as SideGains}
+use Rattle.relay_engine.specs.ReaderEnds.{HasRead, RefusesReader, lent_len, nothing_aside}
+use Rattle.relay_engine.specs.Draining.{DrainingState, DrainsOnce, GainsBy, GainsIf, HasPassed, Idles, IsWithin, MovesBy, Stands, is_fault, lent_for, owes_fault}
+use Rattle.relay_engine.specs.PipeDrainer.{BehindStep, CompletesFor, DrainerState, EndsReader, GainsFor, IsDone, IsDraining, IsOfPipe, NotReaders, RefusesToEnd, StandsAt, StepsDrainer, end_by, owes_end, refused_step, seen_by}
+use Rattle.relay_engine.specs.PipeDrainer.{has_failed as step_has_failed}
+use Rattle.relay_engine.specs.declared.drain_end.DrainEnd.{DrainEnd}
+use Rattle.relay_engine.specs.declared.drain_end.DrainEnd.TheVariants as ends
+use Rattle.relay_engine.specs.declared.draining.Owed.{Owed}
+use Rattle.relay_engine.specs.declared.draining.Progress.{Progress}
+use Rattle.relay_engine.specs.declared.draining.Progress.TheVariants as progress
+use Rattle.relay_engine.specs.declared.pipe_drainer.DrainStep.{DrainStep}
+use Rattle.relay_engine.specs.declared.pipe_drainer.DrainStep.TheVariants.{Moved, Idle, Busy, Worn, Done}
+use Rattle.relay_engine.proofs.DeviceLemmas.{takes_nothing}
+use Rattle.relay_engine.proofs.DrainingLemmas.{concludes_later}
+use Rattle.relay_engine.proofs.PumpLemmas.{new_drained}
+use Rattle.relay_engine.proofs.ReaderEndLemmas.{legal_behind}
+
+same_some : {A : Type 0} (o : Option A) (a b : A) → o ≡ Some a → o ≡ Some b → a ≡ b
+same_some o a b first second = ap (λ x. unwrap_or x a) (sym first ∙ second)
+
+-- The core's step, from a reader's end to a reader's end.
+abbrev Drains : DrainingState → Reader → SinkState → Result Progress TryFault → DrainingState → Reader → SinkState → Type 0
+Drains d r before result d' r' after = DrainsOnce HasRead NotReaders RefusesReader lent_len nothing_aside d r before result d' r' after
+
+-- the state before it
+record Begins (d : DrainerState) (r : Reader) (text : List ℕ) : Type 0 where
+  legal : IsLegal (seen_by r)
+  passed : HasPassed d.draining (seen_by r) text
+
+begins : (d : DrainerState) (r : Reader) (text : List ℕ) → d.end ≡ Some r → d.ending ≡ None → (from : IsDraining d text) → (from.reader ≡ r) × Begins d r text
+begins d r text end going from =
+    let same = same_some d.end from.reader r from.is end in
+    let stands = subst (λ (o : Option DrainEnd). StandsAt o d.draining from.reader text) going from.stands in (
+      same,
+      record {
+        legal = subst (λ (x : Reader). IsLegal (seen_by x)) same from.legal;
+        passed = subst (λ (x : Reader). HasPassed d.draining (seen_by x) text) same stands.0;
+      },
+    )
+
+goes_to : (d' : DrainerState) (r' : Reader) (now : List Call) (text : List ℕ) → d'.end ≡ Some r' → d'.ending ≡ None → HasRead r' now → HasPassed d'.draining now text → lent_len r' ≡ lent_for d'.draining.owed → IsWithin d'.draining.owed → IsDraining d' text
+goes_to d' r' now text end going at passed lends within = record {
+  reader = r';
+  is = end;
+  legal = subst (λ (x : List Call). IsLegal x) at.0 at.1;
+  stands = subst (λ (o : Option DrainEnd). StandsAt o d'.draining r' text) (sym going) (subst (λ (x : List Call). HasPassed d'.draining x text) at.0 passed, lends, within);
+}
+
+pub moved : (d d' : DrainerState) (r r' : Reader) (before after : SinkState) (frames : ℕ) → d.end ≡ Some r → d.ending ≡ None → d'.end ≡ Some r' → d'.ending ≡ None → Drains d.draining r before (Ok (progress.Moved frames)) d'.draining r' after → StepsDrainer d before (Moved frames) d' after
+unfolding goes_to
+moved d d' r r' before after frames end going end' going' once = record {
+  gain = once.gain;
+  gained = subst (λ (o : Option DrainEnd). GainsFor o d.draining.owed false before once.gain after) (sym going) once.gained;
+  behind = λ text from.
+      let b = begins d r text end going from in
+      let a = once.cause (seen_by r) text (refl, b.1.legal) b.1.passed in
+      subst (λ (x : Reader). BehindStep (Moved frames) d x once.gain d' (text ++ once.gain)) (sym b.0) (
+        goes_to d' r' a.now (text ++ once.gain) end' going' a.stands (subst (λ (o : Option Owed). Stands d'.draining.drained o a.now (text ++ once.gain)) (sym a.how.1) a.how.2) once.lends once.within,
+        subst (λ (x : List Call). MovesBy NotReaders d.draining.owed d.draining (seen_by r) frames d'.draining x) a.stands.0 a.how.0,
+        (going', a.how.1),
+      );
+  job = once.job;
+}
+
+pub idled : (d d' : DrainerState) (r r' : Reader) (before after : SinkState) (n : ℕ) → d.end ≡ Some r → d.ending ≡ None → d'.end ≡ Some r' → d'.ending ≡ None → Drains d.draining r before (Ok (progress.Idle n)) d'.draining r' after → StepsDrainer d before (Idle n) d' after
+unfolding goes_to
+idled d d' r r' before after n end going end' going' once = record {
+  gain = once.gain;
+  gained = subst (λ (o : Option DrainEnd). GainsFor o d.draining.owed false before once.gain after) (sym going) once.gained;
+  behind = λ text from.
+      let b = begins d r text end going from in
+      let a = once.cause (seen_by r) text (refl, b.1.legal) b.1.passed in
+      let none : text ≡ text ++ once.gain = sym (append-nil text) ∙ ap (λ (t : List ℕ). text ++ t) (sym a.how.0.none) in
+      subst (λ (x : Reader). BehindStep (Idle n) d x once.gain d' (text ++ once.gain)) (sym b.0) (
+        goes_to d' r' a.now (text ++ once.gain) end' going' a.stands (subst (λ (t : List ℕ). HasPassed d'.draining a.now t) none a.how.1) once.lends once.within,
+        subst (λ (x : List Call). Idles NotReaders d.draining (seen_by r) once.gain n d'.draining x) a.stands.0 a.how.0,
+        (going', ap (λ e. e.owed) a.how.0.unchanged ∙ a.how.0.none_owed),
+      );
+  job = once.job;
+}
+
+pub was_refused : (d d' : DrainerState) (r r' : Reader) (before after : SinkState) (fault : TryFault) → d.end ≡ Some r → d.ending ≡ None → d'.end ≡ Some r' → d'.ending ≡ None → Drains d.draining r before (Err fault) d'.draining r' after → StepsDrainer d before (refused_step fault) d' after
+unfolding goes_to
+was_refused d d' r r' before after (try.Busy word) end going end' going' once = record {
+  gain = once.gain;
+  gained =
+      subst (λ (o : Option DrainEnd). GainsFor o d.draining.owed (owes_end d'.ending d'.draining.owed) before once.gain after) (sym going)
+      (subst (λ (o : Option DrainEnd). GainsBy d.draining.owed (owes_end o d'.draining.owed) before once.gain after) (sym going') once.gained);
+  behind = λ text from.
+      let b = begins d r text end going from in
+      let a = once.cause (seen_by r) text (refl, b.1.legal) b.1.passed in
+      subst (λ (x : Reader). BehindStep (Busy word) d x once.gain d' (text ++ once.gain)) (sym b.0) (goes_to d' r' a.now (text ++ once.gain) end' going' a.stands a.how.0 once.lends once.within, (a.how.1.0.seat, a.how.1.1));
+  job = once.job;
+}
+was_refused d d' r r' before after (try.Worn entries) end going end' going' once = record {
+  gain = once.gain;
+  gained =
+      subst (λ (o : Option DrainEnd). GainsFor o d.draining.owed (owes_end d'.ending d'.draining.owed) before once.gain after) (sym going)
+      (subst (λ (o : Option DrainEnd). GainsBy d.draining.owed (owes_end o d'.draining.owed) before once.gain after) (sym going') once.gained);
+  behind = λ text from.
+      let b = begins d r text end going from in
+      let a = once.cause (seen_by r) text (refl, b.1.legal) b.1.passed in
+      subst (λ (x : Reader). BehindStep (Worn entries) d x once.gain d' (text ++ once.gain)) (sym b.0) (goes_to d' r' a.now (text ++ once.gain) end' going' a.stands a.how.0 once.lends once.within, (a.how.1.0.seat, a.how.1.1));
+  job = once.job;
+}
+
+-- ---- an end
+
+ended_by : (d d' : DrainerState) (dr : DrainingState) (r : Reader) (end : DrainEnd) (text : List ℕ) → d'.draining ≡ dr → (done : (seat : Seat) × (d'.done ≡ Some seat) × EndsReader (end_code end) r seat) → IsLegal (seen_by r) → Concludes dr.drained.job dr.drained.frames dr.drained.written (seen_by r) text end → IsDone d' end text
+ended_by d d' dr r end text same done legal c =
+    let e = done.2 in
+    let b = e.behind in
+    record {
+      seat = done.0;
+      is = done.1;
+      found = b.heard ++ seen_by r;
+      seen = b.seen;
+      concludes =
+          subst (λ (x : DrainingState). Concludes x.drained.job x.drained.frames x.drained.written (b.heard ++ seen_by r) text end) (sym same)
+          (concludes_later dr.drained.job dr.drained.frames dr.drained.written (seen_by r) text end b.heard b.others (subst (λ (x : List Call). IsLegal x) b.seen b.legal).0 c);
+      calls = e.calls;
+      own = e.own;
+    }
+
+still_owed : (d' : DrainerState) (dr : DrainingState) (r : Reader) (fault : TryFault) (end : DrainEnd) (text : List ℕ) → (owes : RefusesToEnd fault end dr r d') → IsLegal (seen_by r) → Concludes dr.drained.job dr.drained.frames dr.drained.written (seen_by r) text end → (to : IsDraining d' text) × ((before : Seat) × Refuses fault before to.reader.seat)
+still_owed d' dr r fault end text owes legal c =
+    let now : IsLegal (seen_by owes.reader) = legal_behind fault r.seat owes.reader.seat owes.refused legal in (
+      record {
+        reader = owes.reader;
+        is = ap (λ e. e.end) owes.drainer;
+        legal = now;
+        stands =
+            subst (λ (x : DrainerState). StandsAt x.ending x.draining owes.reader text) (sym owes.drainer)
+            (subst (λ (x : List Call). Concludes dr.drained.job dr.drained.frames dr.drained.written x text end) (sym owes.hears.seen)
+            (concludes_later dr.drained.job dr.drained.frames dr.drained.written (seen_by r) text end owes.hears.heard owes.hears.others (subst (λ (x : List Call). IsLegal x) owes.hears.seen now) c));
+      },
+      (r.seat, owes.refused),
+    )
+
+-- a completion was made, or refused, by a step that had come to an end
+pub ended : (d d' : DrainerState) (dr : DrainingState) (r r' : Reader) (before after : SinkState) (end : DrainEnd) (step : DrainStep) → d.end ≡ Some r → d.ending ≡ None → Drains d.draining r before (Ok (progress.Ended end)) dr r' after → CompletesFor end dr r' step d' → StepsDrainer d before step d' after
+ended d d' dr r r' before after end (Moved frames) has going once completes = absurd completes
+ended d d' dr r r' before after end (Idle n) has going once completes = absurd completes
+ended d d' dr r r' before after end (Done told) has going once completes =
+    subst (λ (e : DrainEnd). StepsDrainer d before (Done e) d' after) (sym completes.0) (record {
+      gain = once.gain;
+      gained = subst (λ (o : Option DrainEnd). GainsFor o d.draining.owed (is_sink_fault end) before once.gain after) (sym going) once.gained;
+      behind = λ text from.
+          let b = begins d r text has going from in
+          let a = once.cause (seen_by r) text (refl, b.1.legal) b.1.passed in
+          ended_by d d' dr r' end (text ++ once.gain) completes.1 completes.2 (subst (λ (x : List Call). IsLegal x) a.stands.0 a.stands.1) (subst (λ (x : List Call). Concludes dr.drained.job dr.drained.frames dr.drained.written x (text ++ once.gain) end) a.stands.0 a.how);
+      job = ap (λ e. e.drained.job) completes.1 ∙ once.job;
+    })
+ended d d' dr r r' before after end (Busy word) has going once completes = record {
+  gain = once.gain;
+  gained =
+      subst (λ (o : Option DrainEnd). GainsFor o d.draining.owed (owes_end d'.ending d'.draining.owed) before once.gain after) (sym going)
+      (subst (λ (e : DrainerState). GainsBy d.draining.owed (owes_end e.ending e.draining.owed) before once.gain after) (sym completes.drainer) once.gained);
+  behind = λ text from.
+      let b = begins d r text has going from in
+      let a = once.cause (seen_by r) text (refl, b.1.legal) b.1.passed in
+      still_owed d' dr r' (try.Busy word) end (text ++ once.gain) completes (subst (λ (x : List Call). IsLegal x) a.stands.0 a.stands.1) (subst (λ (x : List Call). Concludes dr.drained.job dr.drained.frames dr.drained.written x (text ++ once.gain) end) a.stands.0 a.how);
+  job = ap (λ e. e.draining.drained.job) completes.drainer ∙ once.job;
+}
+ended d d' dr r r' before after end (Worn entries) has going once completes = record {
+  gain = once.gain;
+  gained =
+      subst (λ (o : Option DrainEnd). GainsFor o d.draining.owed (owes_end d'.ending d'.draining.owed) before once.gain after) (sym going)
+      (subst (λ (e : DrainerState). GainsBy d.draining.owed (owes_end e.ending e.draining.owed) before once.gain after) (sym completes.drainer) once.gained);
+  behind = λ text from.
+      let b = begins d r text has going from in
+      let a = once.cause (seen_by r) text (refl, b.1.legal) b.1.passed in
+      still_owed d' dr r' (try.Worn entries) end (text ++ once.gain) completes (subst (λ (x : List Call). IsLegal x) a.stands.0 a.stands.1) (subst (λ (x : List Call). Concludes dr.drained.job dr.drained.frames dr.drained.written x (text ++ once.gain) end) a.stands.0 a.how);
+  job = ap (λ e. e.draining.drained.job) completes.drainer ∙ once.job;
+}
+
+-- ---- a completion that was owed
+
+record Concluded (d : DrainerState) (r : Reader) (end : DrainEnd) (text : List ℕ) : Type 0 where
+  legal : IsLegal (seen_by r)
+  concludes : Concludes d.draining.drained.job d.draining.drained.frames d.draining.drained.written (seen_by r) text end
+
+concluded : (d : DrainerState) (r : Reader) (end : DrainEnd) (text : List ℕ) → d.end ≡ Some r → d.ending ≡ Some end → (from : IsDraining d text) → (from.reader ≡ r) × Concluded d r end text
+concluded d r end text has ending from =
+    let same = same_some d.end from.reader r from.is has in
+    let stands = subst (λ (o : Option DrainEnd). StandsAt o d.draining from.reader text) ending from.stands in (
+      same,
+      record {
+        legal = subst (λ (x : Reader). IsLegal (seen_by x)) same from.legal;
+        concludes = subst (λ (x : Reader). Concludes d.draining.drained.job d.draining.drained.frames d.draining.drained.written (seen_by x) text end) same stands;
+      },
+    )
+
+pub completed : (d d' : DrainerState) (r : Reader) (k : SinkState) (end : DrainEnd) (step : DrainStep) → d.end ≡ Some r → d.ending ≡ Some end → CompletesFor end d.draining r step d' → StepsDrainer d k step d' k
+completed d d' r k end (Moved frames) has ending completes = absurd completes
+completed d d' r k end (Idle n) has ending completes = absurd completes
+completed d d' r k end (Done told) has ending completes =
+    subst (λ (e : DrainEnd). StepsDrainer d k (Done e) d' k) (sym completes.0) (record {
+      gain = [];
+      gained = subst (λ (o : Option DrainEnd). GainsFor o d.draining.owed (is_sink_fault end) k [] k) (sym ending) (refl, refl, refl);
+      behind = λ text from.
+          let c = concluded d r end text has ending from in
+          subst (λ (t : List ℕ). IsDone d' end t) (sym (append-nil text)) (ended_by d d' d.draining r end text completes.1 completes.2 c.1.legal c.1.concludes);
+      job = ap (λ e. e.drained.job) completes.1;
+    })
+completed d d' r k end (Busy word) has ending completes = record {
+  gain = [];
+  gained = subst (λ (o : Option DrainEnd). GainsFor o d.draining.owed (owes_end d'.ending d'.draining.owed) k [] k) (sym ending) (refl, refl, ap (λ e. owes_end e.ending e.draining.owed) completes.drainer);
+  behind = λ text from.
+      let c = concluded d r end text has ending from in
+      subst (λ (t : List ℕ). (to : IsDraining d' t) × ((before : Seat) × Refuses (try.Busy word) before to.reader.seat)) (sym (append-nil text)) (still_owed d' d.draining r (try.Busy word) end text completes c.1.legal c.1.concludes);
+  job = ap (λ e. e.draining.drained.job) completes.drainer;
+}
+completed d d' r k end (Worn entries) has ending completes = record {
+  gain = [];
+  gained = subst (λ (o : Option DrainEnd). GainsFor o d.draining.owed (owes_end d'.ending d'.draining.owed) k [] k) (sym ending) (refl, refl, ap (λ e. owes_end e.ending e.draining.owed) completes.drainer);
+  behind = λ text from.
+      let c = concluded d r end text has ending from in
+      subst (λ (t : List ℕ). (to : IsDraining d' t) × ((before : Seat) × Refuses (try.Worn entries) before to.reader.seat)) (sym (append-nil text)) (still_owed d' d.draining r (try.Worn entries) end text completes c.1.legal c.1.concludes);
+  job = ap (λ e. e.draining.drained.job) completes.drainer;
+}
+
+-- ---- all steps
+
+pub none_of : {A : Type 0} (o : Option A) → ((x : A) → o ≡ Some x → ⊥) → o ≡ None
+none_of None never = refl
+none_of (Some x) never = absurd (never x refl)
+
+-- So far this text was written, by steps of which none was the last.
+pub record HasWritten (job : Job) (before : SinkState) (d : DrainerState) (now : SinkState) : Type 0 where
+  pub text : List ℕ
+  pub draining : IsDraining d text
+  pub gained : GainsIf (owes_end d.ending d.draining.owed) before text now
+  pub job_is : d.draining.drained.job ≡ job
+
+pub wrote_nothing : (d : DrainerState) (k : SinkState) → IsDraining d [] → d.ending ≡ None → d.draining.owed ≡ None → HasWritten d.draining.drained.job k d k
+wrote_nothing d k draining going none = record {
+  text = [];
+  draining = draining;
+  gained = subst (λ (o : Option DrainEnd). GainsIf (owes_end o d.draining.owed) k [] k) (sym going) (subst (λ (o : Option Owed). GainsIf (owes_fault o) k [] k) (sym none) (takes_nothing k k refl));
+  job_is = refl;
+}
+
+pub adds : (failed : Bool) (a b c : SinkState) (text gain : List ℕ) → Takes a text b → GainsIf failed b gain c → GainsIf failed a (text ++ gain) c
+adds true a b c text gain taken more = (Appends-trans _ _ _ text gain taken.taken more.0, rw (← taken.unfailed) more.1)
+adds false a b c text gain taken more = Takes-trans a b c text gain taken more
+
+stays : (failed failed' : Bool) (a b c : SinkState) (text gain : List ℕ) → GainsIf failed a text b → gain ≡ [] → c ≡ b → failed' ≡ failed → GainsIf failed' a (text ++ gain) c
+stays failed failed' a b c text gain gained none same kept =
+    rw (kept, none, same, append-nil text) gained
+
+gains_all : (ending : Option DrainEnd) (owed : Option Owed) (failed : Bool) (a b c : SinkState) (text gain : List ℕ) → GainsIf (owes_end ending owed) a text b → GainsFor ending owed failed b gain c → GainsIf failed a (text ++ gain) c
+gains_all None None failed a b c text gain gained more = adds failed a b c text gain gained more
+gains_all None (Some owed) failed a b c text gain gained more = stays (is_fault owed.end) failed a b c text gain gained more.0 more.1 more.2
+gains_all (Some end) owed failed a b c text gain gained more = stays (is_sink_fault end) failed a b c text gain gained more.0 more.1 more.2
+
+goes_further : (job : Job) (before : SinkState) (d d' : DrainerState) (k k' : SinkState) (step : DrainStep) → (wrote : HasWritten job before d k) → (once : StepsDrainer d k step d' k') → IsDraining d' (wrote.text ++ once.gain) → step_has_failed step d' ≡ owes_end d'.ending d'.draining.owed → HasWritten job before d' k'
+goes_further job before d d' k k' step wrote once to same = record {
+  text = wrote.text ++ once.gain;
+  draining = to;
+  gained = subst (λ (b : Bool). GainsIf b before (wrote.text ++ once.gain) k') same (gains_all d.ending d.draining.owed (step_has_failed step d') before k k' wrote.text once.gain wrote.gained once.gained);
+  job_is = once.job ∙ wrote.job_is;
+}
+
+none_owed : (ending : Option DrainEnd) (owed : Option Owed) → ending ≡ None → owed ≡ None → owes_end ending owed ≡ false
+none_owed ending owed going none = rw (going, none) refl
+
+pub wrote_on : (job : Job) (before : SinkState) (d d' : DrainerState) (k k' : SinkState) (step : DrainStep) → HasWritten job before d k → StepsDrainer d k step d' k' → end_by step ≡ None → HasWritten job before d' k'
+wrote_on job before d d' k k' (Moved frames) wrote once more =
+    let so = once.behind wrote.text wrote.draining in goes_further job before d d' k k' (Moved frames) wrote once so.0 (sym (none_owed d'.ending d'.draining.owed so.2.0 so.2.1))
+wrote_on job before d d' k k' (Idle n) wrote once more =
+    let so = once.behind wrote.text wrote.draining in goes_further job before d d' k k' (Idle n) wrote once so.0 (sym (none_owed d'.ending d'.draining.owed so.2.0 so.2.1))
+wrote_on job before d d' k k' (Busy word) wrote once more = goes_further job before d d' k k' (Busy word) wrote once (once.behind wrote.text wrote.draining).0 refl
+wrote_on job before d d' k k' (Worn entries) wrote once more = goes_further job before d d' k k' (Worn entries) wrote once (once.behind wrote.text wrote.draining).0 refl
+wrote_on job before d d' k k' (Done end) wrote once more = absurd cc
+
+pub as_gains : (end : DrainEnd) (before after : SinkState) (text : List ℕ) → GainsIf (is_sink_fault end) before text after → SideGains end before text after
+as_gains ends.Clean before after text gained = gained
+as_gains ends.Stopped before after text gained = gained
+as_gains (ends.Rest place) before after text gained = gained
+as_gains (ends.Bad place kind) before after text gained = gained
+as_gains ends.SinkFault before after text gained = gained
+
+pub still_going : (d : DrainerState) (step : DrainStep) (pipe : CellState Options) → IsOfPipe pipe step d → end_by step ≡ None → IsSomeAnd d.end (λ r. IsIdle pipe r.seat)
+still_going d (Moved frames) pipe of more = of
+still_going d (Idle n) pipe of more = of
+still_going d (Busy word) pipe of more = of
+still_going d (Worn entries) pipe of more = of
+still_going d (Done end) pipe of more = absurd cc
+
+pub wrote_all : (job : Job) (before : SinkState) (d d' : DrainerState) (k k' : SinkState) (step : DrainStep) (end : DrainEnd) (seat : Seat) (frames written : ℕ) → end_by step ≡ Some end → d'.done ≡ Some seat → frames ≡ d'.draining.drained.frames → written ≡ d'.draining.drained.written → HasWritten job before d k → StepsDrainer d k step d' k'
+    → HasDrained job end seat frames written before k'
+wrote_all job before d d' k k' (Moved n) end seat frames written ends_so is counted bytes wrote once = absurd cc
+wrote_all job before d d' k k' (Idle n) end seat frames written ends_so is counted bytes wrote once = absurd cc
+wrote_all job before d d' k k' (Busy word) end seat frames written ends_so is counted bytes wrote once = absurd cc
+wrote_all job before d d' k k' (Worn entries) end seat frames written ends_so is counted bytes wrote once = absurd cc
+wrote_all job before d d' k k' (Done told) end seat frames written ends_so is counted bytes wrote once =
+    let same = same_some (Some told) told end refl ends_so in
+    subst (λ (e : DrainEnd). HasDrained job e seat frames written before k') same
+    (let done = once.behind wrote.text wrote.draining in
+    let at_seat = same_some d'.done done.seat seat done.is is in
+    let job_is = once.job ∙ wrote.job_is in
+    record {
+      text = wrote.text ++ once.gain;
+      gained = as_gains told before k' (wrote.text ++ once.gain) (gains_all d.ending d.draining.owed (is_sink_fault told) before k k' wrote.text once.gain wrote.gained once.gained);
+      found = done.found;
+      seen = subst (λ (s : Seat). calls_of s.seen ≡ EndReader (end_code told) ∷ done.found) at_seat done.seen;
+      concludes =
+          rw (counted, bytes)
+          (subst (λ (j : Job). Concludes j d'.draining.drained.frames d'.draining.drained.written done.found (wrote.text ++ once.gain) told) job_is done.concludes);
+      calls = done.calls;
+      own = subst (λ (s : Seat). s.own ≡ done.calls ++ EndReader (end_code told) ∷ []) at_seat done.own;
+    })
+
+-- ---- a new drainer, and a completion
+
+pub ends_reader : (options : Options) (code : ℕ) (wake : Wake) (r : Reader) (seat : Seat) → CallsBehind options 1 (seen_by r) (EndReader code) (Woke wake) (calls_of seat.seen) → Makes options r.seat (EndReader code) (Woke wake) seat → EndsReader code r seat
+ends_reader options code wake r seat behind makes = record { options = options; wake = wake; behind = behind; calls = makes.found.own; own = ap (λ s. s.own) makes.after }
+
+pub begins_new : (d : DrainerState) (r : Reader) (job : Job) → d.end ≡ Some r → d.ending ≡ None → d.draining ≡ record { drained = record { job = job; place = 0; frames = 0; written = 0; known = 0 }; owed = None } → r.seat.seen ≡ [] → r.lent ≡ None → IsDraining d []
+begins_new d r job has going new unseen no_lend = record {
+  reader = r;
+  is = has;
+  legal = subst (λ (x : List (ℕ × Call)). IsLegal (calls_of x)) (sym unseen) tt;
+  stands =
+      subst (λ (o : Option DrainEnd). StandsAt o d.draining r []) (sym going)
+      (subst (λ (x : DrainingState). HasPassed x (seen_by r) [] × (lent_len r ≡ lent_for x.owed) × IsWithin x.owed) (sym new)
+      (subst (λ (x : List (ℕ × Call)). IsDrained (record { job = job; place = 0; frames = 0; written = 0; known = 0 }) (calls_of x) []) (sym unseen) (new_drained job), ap (λ (o : Option (List ℕ)). option_map length o) no_lend, tt));
+}

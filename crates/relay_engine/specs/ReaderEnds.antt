@@ -1,0 +1,48 @@
+-- What an engine sees of the reading end of a pipe: of the end of a pipe for two threads, or of a whole pipe for one thread.
+use Rattle.std.specs.Prelude.{ℕ, ◌≡◌, List, length, Option, Some, None, IsNone, option_map}
+use Rattle.turn_cell.specs.Seat.{CellState, IsIdle}
+use Rattle.pipe_core.specs.History.{Call}
+use Rattle.pipe_core.specs.Legal.{IsLegal}
+use Rattle.pipe_shared.specs.declared.options.Options.{Options}
+use Rattle.pipe_shared.specs.declared.faults.TryFault.{TryFault}
+use Rattle.pipe_shared.specs.Log.{calls_of}
+use Rattle.pipe_shared.specs.Turns.{Refuses}
+use Rattle.pipe_shared.specs.Ends.{Reader}
+use Rattle.pipe_shared.specs.Local.{Local}
+
+-- What no history tells: the options, and what is drafted.
+pub record Aside : Type 0 where
+  pub options : Options
+  pub draft : List ℕ
+
+-- ---- a pipe for two threads
+
+-- A reading end is one of this pipe's.
+abbrev pub IsReaderOf : CellState Options → Reader → Type 0
+IsReaderOf pipe r = IsIdle pipe r.seat
+
+-- It stands for what it has seen, which is lawful.
+abbrev pub HasRead : Reader → List Call → Type 0
+HasRead r h = (h ≡ calls_of r.seat.seen) × IsLegal h
+
+abbrev pub RefusesReader : TryFault → Reader → Reader → Type 0
+RefusesReader fault old new = Refuses fault old.seat new.seat
+
+abbrev pub lent_len : Reader → Option ℕ
+lent_len r = option_map length r.lent
+
+-- A reader sees nothing of the writer's own.
+abbrev pub nothing_aside : Reader → Option Aside
+nothing_aside r = None
+
+-- ---- a pipe for one thread
+
+-- The reader goes on. There is no other pipe that its calls are made on.
+abbrev pub IsAttended : Unit {0} → Local → Type 0
+IsAttended pipe p = IsNone p.pipe.control.gone
+
+abbrev pub lent_local : Local → Option ℕ
+lent_local p = p.pipe.control.lent
+
+abbrev pub aside_local : Local → Option Aside
+aside_local p = Some (record { options = p.options; draft = p.pipe.bytes.draft })

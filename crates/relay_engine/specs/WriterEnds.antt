@@ -1,0 +1,56 @@
+-- What a filler sees of the writing ends of both pipes.
+use Rattle.std.specs.Prelude.{ℕ, ◌≡◌, ◌≢◌, List, length, Some, None, IsNone}
+use Rattle.turn_cell.specs.Seat.{CellState, IsIdle}
+use Rattle.pipe_core.specs.History.{Call}
+use Rattle.pipe_core.specs.Legal.{IsLegal, seat_of}
+use Rattle.pipe_shared.specs.declared.options.Options.{Options}
+use Rattle.pipe_shared.specs.declared.faults.TryFault.{TryFault}
+use Rattle.pipe_shared.specs.Log.{calls_of}
+use Rattle.pipe_shared.specs.Turns.{Refuses}
+use Rattle.pipe_shared.specs.Ends.{Writer}
+use Rattle.pipe_shared.specs.Granting.{FindsFull}
+use Rattle.pipe_shared.specs.Local.{Local, IsFull}
+use Rattle.relay_engine.specs.Filling.{Drafting}
+
+-- A writing end is one of this pipe's.
+abbrev pub IsWriterOf : CellState Options → Writer → Type 0
+IsWriterOf pipe w = IsIdle pipe w.seat
+
+-- It stands for what it has seen, which is lawful.
+abbrev pub HasWritten : Writer → List Call → Type 0
+HasWritten w h = (h ≡ calls_of w.seat.seen) × IsLegal h
+
+-- the calls that the writer doesn't make
+abbrev pub IsOthers : Call → Type 0
+IsOthers call = seat_of call ≢ 0
+
+abbrev pub drafting : Writer → Drafting
+drafting w = record { draft = w.draft; room = length w.free; exchanges = w.seat.exchanges; reading = None }
+
+abbrev pub options_of : CellState Options → Writer → Options
+options_of pipe w = pipe.name
+
+abbrev pub RefusesWriter : TryFault → Writer → Writer → Type 0
+RefusesWriter fault old new = Refuses fault old.seat new.seat
+
+abbrev pub FindsNoRoom : CellState Options → ℕ → ℕ → ℕ → Writer → Writer → Type 0
+FindsNoRoom pipe held draft capacity old new = FindsFull pipe.name 1 held draft capacity old new
+
+-- ---- a pipe for one thread, whose writer goes on
+
+abbrev pub GoesOn : Unit {0} → Local → Type 0
+GoesOn pipe p = IsNone p.pipe.control.ended
+
+abbrev pub local_drafting : Local → Drafting
+local_drafting p = record {
+  draft = p.pipe.bytes.draft;
+  room = length p.pipe.bytes.free;
+  exchanges = 0;
+  reading = Some (record { lent = p.pipe.control.lent; gone = p.pipe.control.gone });
+}
+
+abbrev pub local_options : Unit {0} → Local → Options
+local_options pipe p = p.options
+
+abbrev pub IsLocalFull : Unit {0} → ℕ → ℕ → ℕ → Local → Local → Type 0
+IsLocalFull pipe held draft capacity old new = IsFull 1 held draft capacity old × (new ≡ old)

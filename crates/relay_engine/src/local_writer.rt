@@ -1,0 +1,69 @@
+//! A pipe for one thread, as a filler sees it.
+
+use crate::fill_pipe::{FillPipe, NoRoom};
+use crate::reading::read_into;
+use edge_core::Source;
+use frame_model::FillEnd;
+use pipe_core::FlushReply;
+use pipe_shared::{LocalPipe, LocalRoomFault, TryFault};
+
+impl FillPipe for LocalPipe {
+    type Pipe = ();
+
+    ghost use Rattle.relay_engine.specs.WriterEnds.{GoesOn, IsLocalFull, local_drafting, local_options};
+    ghost use Rattle.relay_engine.specs.LocalEnds.{HoldsLocal, NoOthers, RefusesNone};
+
+    ghost may_call = { GoesOn };
+
+    ghost at = { HoldsLocal };
+
+    ghost others = { NoOthers };
+
+    ghost writer = { local_drafting };
+
+    ghost options = { local_options };
+
+    ghost refuses = { RefusesNone };
+
+    ghost is_full = { IsLocalFull };
+
+    ghost others_write_nothing = { λ call is. absurd is };
+
+    fn room(&mut self, _pipe: &()) -> Result<(), NoRoom> {
+        self.has_segments();
+        match self.room(1) {
+            Ok(_) => Ok(()),
+            Err(
+                LocalRoomFault::Full {
+                    held,
+                    draft,
+                    capacity,
+                },
+            ) => {
+                Err(NoRoom::Full {
+                    held,
+                    draft,
+                    capacity,
+                })
+            }
+            Err(LocalRoomFault::TooLarge { .. }) => unreachable!(),
+        }
+    }
+
+    fn draft_from<S: Source>(&mut self, source: &mut S, left: u64) -> Result<usize, FillEnd> {
+        match read_into(source, self.spare_mut(), left) {
+            Err(end) => Err(end),
+            Ok(read) => {
+                self.advance_draft(read);
+                Ok(read)
+            }
+        }
+    }
+
+    fn commit(&mut self, _pipe: &()) -> Result<FlushReply, TryFault> {
+        match self.flush() {
+            Ok((reply, _)) => Ok(reply),
+            Err(_) => unreachable!(),
+        }
+    }
+}

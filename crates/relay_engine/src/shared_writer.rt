@@ -1,0 +1,75 @@
+//! The writing end of a pipe for two threads, as a filler sees it.
+
+use crate::fill_pipe::{FillPipe, NoRoom};
+use crate::reading::read_into;
+use edge_core::Source;
+use frame_model::FillEnd;
+use pipe_core::FlushReply;
+use pipe_shared::{FlushFault, Pipe, RoomFault, TryFault, WriterEnd, others_are_heard_first};
+
+impl FillPipe for WriterEnd {
+    type Pipe = Pipe;
+
+    ghost use Rattle.relay_engine.specs.WriterEnds.{FindsNoRoom, HasWritten, IsOthers, IsWriterOf, RefusesWriter, drafting, options_of};
+
+    ghost may_call = { IsWriterOf };
+
+    ghost at = { HasWritten };
+
+    ghost others = { IsOthers };
+
+    ghost writer = { drafting };
+
+    ghost options = { options_of };
+
+    ghost refuses = { RefusesWriter };
+
+    ghost is_full = { FindsNoRoom };
+
+    ghost others_write_nothing = { λ call is. is };
+
+    fn room(&mut self, pipe: &Pipe) -> Result<(), NoRoom> {
+        others_are_heard_first();
+        self.has_the_writers_seat();
+        pipe.has_segments();
+        match pipe.try_room(self, 1) {
+            Ok(_) => Ok(()),
+            Err(
+                RoomFault::Full {
+                    held,
+                    draft,
+                    capacity,
+                },
+            ) => {
+                Err(NoRoom::Full {
+                    held,
+                    draft,
+                    capacity,
+                })
+            }
+            Err(RoomFault::Busy { word }) => Err(NoRoom::Refused(TryFault::Busy { word })),
+            Err(RoomFault::TooLarge { .. }) => unreachable!(),
+        }
+    }
+
+    fn draft_from<S: Source>(&mut self, source: &mut S, left: u64) -> Result<usize, FillEnd> {
+        match read_into(source, self.spare_mut(), left) {
+            Err(end) => Err(end),
+            Ok(read) => {
+                self.advance(read);
+                Ok(read)
+            }
+        }
+    }
+
+    fn commit(&mut self, pipe: &Pipe) -> Result<FlushReply, TryFault> {
+        others_are_heard_first();
+        self.has_the_writers_seat();
+        match pipe.try_flush(self) {
+            Ok((reply, _)) => Ok(reply),
+            Err(FlushFault::Busy { word }) => Err(TryFault::Busy { word }),
+            Err(FlushFault::Worn { entries }) => Err(TryFault::Worn { entries }),
+            Err(FlushFault::TooMuch { .. }) => unreachable!(),
+        }
+    }
+}

@@ -1,0 +1,2 @@
+mod MeetLemmas
+mod PumpedLemmas
