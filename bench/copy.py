@@ -6,6 +6,11 @@ Rust's library, and `tuned.c`, by hand. From a file to the null device, and thro
 
 wants `crates/relay/out/relay`, `rustc` and `cc`. Each line is a translation and a payload's length, and the least time of
 `relay` over the least time of each yardstick. The keys are given to `relay`.
+
+    python3 bench/copy.py pump [MEGABYTES]
+
+wants the first of them alone, and measures `relay pump` beside `relay copy` on lines of 80 bytes: the least time of each in
+seconds, and their ratio.
 """
 
 import hashlib
@@ -20,6 +25,7 @@ RELAY = os.path.join(HERE, "..", "crates", "relay", "out", "relay")
 ROUNDS = 5
 TRANSLATIONS = [("line", "len4"), ("len4", "line"), ("len4", "len4"), ("line", "line")]
 PAYLOADS = [12, 80, 1024, 60000]
+KEYS = [["seg=4096"], ["seg=65536", "pause=1048576"]]
 
 
 def build(folder):
@@ -68,7 +74,31 @@ def digest(words, path):
         return found
 
 
+def least_times(run, programs, path):
+    least = [float("inf")] * len(programs)
+    for _ in range(ROUNDS):
+        for i, words in enumerate(programs):
+            least[i] = min(least[i], run(words, path))
+    return least
+
+
+def pump_beside_copy(size):
+    with tempfile.TemporaryDirectory() as folder:
+        path = os.path.join(folder, "input")
+        write_input(path, "line", 80, size)
+        print(f"{'keys':26}{'way':8}{'copy':>8}{'pump':>8}{'pump / copy':>13}")
+        for keys in KEYS:
+            programs = [[RELAY, command, "line", "len4", *keys] for command in ("copy", "pump")]
+            assert len({digest(words, path) for words in programs}) == 1
+            for way, run in (("file", file_to_null), ("pipes", through_pipes)):
+                copy, pump = least_times(run, programs, path)
+                print(f"{' '.join(keys):26}{way:8}{copy:8.3f}{pump:8.3f}{pump / copy:13.2f}", flush=True)
+
+
 def main():
+    if sys.argv[1:2] == ["pump"]:
+        pump_beside_copy(int(sys.argv[2] if len(sys.argv) > 2 else "200") * 1_000_000)
+        return
     size = int(sys.argv[1] if len(sys.argv) > 1 else "100") * 1_000_000
     keys = sys.argv[2:]
     with tempfile.TemporaryDirectory() as folder:
@@ -86,10 +116,7 @@ def main():
                 assert len({digest(words, path) for words in programs}) == 1
                 ratios = []
                 for run in (file_to_null, through_pipes):
-                    least = [float("inf")] * 3
-                    for _ in range(ROUNDS):
-                        for i, words in enumerate(programs):
-                            least[i] = min(least[i], run(words, path))
+                    least = least_times(run, programs, path)
                     ratios += [least[0] / least[1], least[0] / least[2]]
                 print(f"{source + ' to ' + sink:16}{payload:8}  {ratios[0]:15.2f}{ratios[1]:7.2f}  {ratios[2]:16.2f}{ratios[3]:7.2f}", flush=True)
 

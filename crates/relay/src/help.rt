@@ -6,8 +6,10 @@ pub const HELP: &str = "\
 relay translates framed byte streams.
 
 usage: relay copy IN OUT [KEY=BYTES ..]
+       relay pump IN OUT [KEY=BYTES ..]
 
-Reads frames from standard input, and writes their payloads to standard output as frames of another kind.
+Reads frames from standard input, and writes their payloads to standard output as frames of another kind: `copy` on one
+thread, and `pump` on two, of which one reads while the other writes.
 
 IN and OUT
   len4    the payload's length in 4 bytes, most significant first, and then the payload

@@ -3,14 +3,20 @@
 
 mod help;
 
-use edge_core::{ReadEdge, Sink, WriteEdge, write_all};
+use edge_core::{ReadEdge, Sink, Source, WriteEdge, write_all};
 use help::{HELP, VERSION};
-use relay_top::relay_local;
+use relay_top::relay_main;
+use std::alloc::Global;
 use std::process::ExitCode;
+use std::sync::Wait;
+use std::thread::Threads;
 use std::{env, io};
 
-/// The status of words that can't be had as text.
+/// The status of words that can't be had as text, or are too many.
 const USAGE: u8 = 1;
+
+/// So many words are too many for a command.
+const TOO_MANY: usize = 1 << 32;
 
 /// The status where a text can't be written to standard output.
 const WRITE_FAULT: u8 = 5;
@@ -19,32 +25,42 @@ const WRITE_FAULT: u8 = 5;
 const OUT_OF_MEMORY: u8 = 6;
 
 fn main(rt: HostRuntime) -> ExitCode {
-    ExitCode::from(run(&rt))
-}
-
-fn run(rt: &HostRuntime) -> u8 {
+    let mut input = ReadEdge::new(rt.stdin());
     let mut output = WriteEdge::new(rt.stdout());
     let mut faults = WriteEdge::new(rt.stderr());
-    let words = match words(rt) {
-        Ok(words) => words,
+    let status = match words(&rt) {
+        Ok(words) => run(
+            &rt,
+            rt.alloc(),
+            words.as_slice(),
+            &mut input,
+            &mut output,
+            &mut faults,
+        ),
         Err(error) if error.kind() == io::ErrorKind::OutOfMemory => {
-            return tell(&mut faults, "out of memory\n", OUT_OF_MEMORY);
+            tell(&mut faults, "out of memory\n", OUT_OF_MEMORY)
         }
-        Err(_) => return tell(&mut faults, "usage: a word is not text\n", USAGE),
+        Err(_) => tell(&mut faults, "usage: a word is not text\n", USAGE),
     };
-    match only_word(words.as_slice()) {
-        Some("--help") => print(&mut output, HELP),
-        Some("--version") => print(&mut output, VERSION),
-        _ => {
-            let mut input = ReadEdge::new(rt.stdin());
-            relay_local(
-                rt.alloc(),
-                words.as_slice(),
-                &mut input,
-                &mut output,
-                &mut faults,
-            )
-        }
+    ExitCode::from(status)
+}
+
+/// Does what the words ask for, and answers the status.
+fn run<R: Wait + Threads + Sync, S: Source + Send, K: Sink + Send, E: Sink>(
+    rt: &R,
+    alloc: Global,
+    words: &[String],
+    input: &mut S,
+    output: &mut K,
+    faults: &mut E,
+) -> u8 {
+    if words.len() >= TOO_MANY {
+        return tell(faults, "usage: too many words\n", USAGE);
+    }
+    match only_word(words) {
+        Some("--help") => print(output, HELP),
+        Some("--version") => print(output, VERSION),
+        _ => relay_main(rt, alloc, words, input, output, faults),
     }
 }
 

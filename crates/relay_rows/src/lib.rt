@@ -2,4 +2,6 @@
 #![tactic(auto)]
 
 #[cfg(test)]
-mod copy;
+mod case;
+#[cfg(test)]
+mod relays;

@@ -1,1 +1,1 @@
-mod LocalLemmas
+mod RelayLemmas

@@ -2,5 +2,8 @@
 #![tactic(auto)]
 
 mod local;
+mod telling;
+mod threaded;
 
-pub use local::relay_local;
+pub use local::{is_local, relay_local};
+pub use threaded::relay_main;

@@ -1,25 +1,35 @@
-//! The commands that wait for nobody.
+//! The commands on one thread, which wait for nobody.
 
-ghost use Rattle.std.specs.Prelude.{◌≡◌, ◌≢◌, ◌↔◌, ◌⊎◌, IsErr, IfErr, IfOk};
+ghost use Rattle.std.specs.Prelude.{◌≡◌, ◌≢◌, ◌↔◌, ◌⊎◌, true, IsErr, IfErr, IfOk};
 ghost use Rattle.frame_model.specs.Job.{IsInRange};
 ghost use Rattle.relay_model.specs.Lines.{IsWritten, memory_line, usage_line};
 ghost use Rattle.relay_model.specs.Run.{HasCause, IsComplete, IsRelayed, RelaysAll, TranslatesAll};
 ghost use Rattle.relay_words.specs.Words.{command_of, job_of, texts};
-ghost use Rattle.relay_engine.specs.Tell.{told_line};
-ghost use Rattle.relay_top.specs.Local.{Copies};
+ghost use Rattle.relay_top.specs.Commands.{is_local as is_local_of, is_threaded as is_threaded_of, Relays, runs_alone};
 
+use crate::telling::{OUT_OF_MEMORY, USAGE, report_on};
 use edge_core::{Sink, Source};
 use frame_grammar::Job;
-use relay_engine::{Told, pump_local, status_of, tell};
+use relay_engine::{Told, pump_local, status_of};
 use relay_model::{causes_of_statuses, complete_where_lawful, translates_all, whole_on_status_0};
 use relay_words::{Command, read_words};
 use std::alloc::Global;
 
-/// The status of words that are no command.
-const USAGE: u8 = 1;
+/// Whether the words ask for no more than one thread: the first isn't `pump`, `drill`, `batch` or `serve`, or there is none.
+pub fn is_local(words: &[String]) -> bool
+    ensures { result ≡ is_local_of (texts words.now) }
+{
+    match words.split_first() {
+        Some((command, _)) => !is_threaded(command.as_str()),
+        None => true,
+    }
+}
 
-/// The status where there is no memory for a relay.
-const OUT_OF_MEMORY: u8 = 6;
+fn is_threaded(word: &str) -> bool
+    ensures { result ≡ is_threaded_of word.now }
+{
+    matches!(word, "pump" | "drill" | "batch" | "serve")
+}
 
 /// Runs the command that the words ask for, which relays `source` to `sink`, and answers its status.
 /// Where that isn't 0, a line on `faults` says why; a failure of `faults` changes nothing.
@@ -41,6 +51,7 @@ pub fn relay_local<S: Source, K: Sink, E: Sink>(
     sink: &mut K,
     faults: &mut E,
 ) -> u8
+    requires { is_local_of (texts words.now) ≡ true }
     ensures usage { (result ≡ 1) ↔ IsErr (command_of (texts words.now)) }
     ensures usage_told { IfErr (command_of (texts words.now)) (λ word. IsWritten (usage_line word) (E.state faults.old) (E.state faults.new)) }
     ensures memory_told { result ≡ 6 → IsWritten memory_line (E.state faults.old) (E.state faults.new) }
@@ -85,11 +96,13 @@ fn run<S: Source, K: Sink, E: Sink>(
     sink: &mut K,
     faults: &mut E,
 ) -> u8
-    requires { IsInRange (job_of command) }
-    ensures { Copies (job_of command) result (S.state source.old) (S.state source.new) (K.state sink.old) (K.state sink.new) (E.state faults.old) (E.state faults.new) }
+    requires range { IsInRange (job_of command) }
+    requires alone { runs_alone command ≡ true }
+    ensures { Relays (job_of command) result (S.state source.old) (S.state source.new) (K.state sink.old) (K.state sink.new) (E.state faults.old) (E.state faults.new) }
 {
     match command {
         Command::Copy { job } => copy(alloc, &job, source, sink, faults),
+        Command::Pump { .. } => unreachable!(),
     }
 }
 
@@ -102,7 +115,7 @@ fn copy<S: Source, K: Sink, E: Sink>(
     faults: &mut E,
 ) -> u8
     requires { IsInRange job.now }
-    ensures { Copies job.now result (S.state source.old) (S.state source.new) (K.state sink.old) (K.state sink.new) (E.state faults.old) (E.state faults.new) }
+    ensures { Relays job.now result (S.state source.old) (S.state source.new) (K.state sink.old) (K.state sink.new) (E.state faults.old) (E.state faults.new) }
 {
     let Ok(report) = pump_local(alloc, source, sink, job) else {
         report_on(faults, Told::Memory);
@@ -110,13 +123,4 @@ fn copy<S: Source, K: Sink, E: Sink>(
     };
     report_on(faults, Told::Relay { report });
     status_of(report.outcome)
-}
-
-/// Writes the line, as far as no write fails: a failure of `faults` changes nothing.
-fn report_on<E: Sink>(faults: &mut E, told: Told)
-    ensures { IsWritten (told_line told) (E.state faults.old) (E.state faults.new) }
-{
-    let Ok(()) = tell(faults, told) else {
-        return;
-    };
 }

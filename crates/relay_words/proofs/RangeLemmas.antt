@@ -8,12 +8,13 @@ use Rattle.frame_model.specs.declared.framing.Framing.{Framing}
 use Rattle.frame_model.specs.declared.framing.Framing.TheVariants.{Line}
 use Rattle.frame_model.specs.declared.job.Job.{Job}
 use Rattle.relay_words.specs.declared.command.Command.{Command}
-use Rattle.relay_words.specs.declared.command.Command.TheVariants.{Copy}
+use Rattle.relay_words.specs.declared.command.Kind.{Kind}
+use Rattle.relay_words.specs.declared.command.Kind.TheVariants as kinds
 use Rattle.relay_words.specs.declared.keys.Given.{Given}
 use Rattle.relay_words.specs.declared.keys.Keys.{Keys}
 use Rattle.relay_words.specs.Keys.{above, given_among, given_by, keys_among, max_of, number_of_key, number_or, pause_in, pause_of, resume_of, seg_of, usual_resume}
 use Rattle.relay_words.specs.Numbers.{number_of}
-use Rattle.relay_words.specs.Words.{command_in, command_of, framing_of, job_of, job_with, misplaced}
+use Rattle.relay_words.specs.Words.{command_in, command_of, command_with, framing_of, job_of, job_with, kind_of, misplaced}
 
 abbrev Within : ℕ → ℕ → ℕ → Type 0
 Within least greatest n = (least ≤ n) × (n ≤ greatest)
@@ -118,9 +119,13 @@ job_range input output words None job q e =
     let same : job_made input output (keys_among words) ≡ job = ok_is _ _ e in
     subst (λ (j : Job). IsInRange j) same (made_range input output words q)
 
-copy_range : (r : Result Job ℕ) (command : Command) → ((job : Job) → r ≡ Ok job → IsInRange job) → ◌≡◌ {A = Result Command ℕ} (elim r [ Ok job ↦ Ok (Copy job) | Err at ↦ Err at ]) (Ok command) → IsInRange (job_of command)
-copy_range (Ok job) command h e = subst (λ (c : Command). IsInRange (job_of c)) (ok_is _ _ e) (h job refl)
-copy_range (Err at) command h e = absurd cc
+its_job : (kind : Kind) (job : Job) → job_of (command_with kind job) ≡ job
+its_job kinds.Copy job = refl
+its_job kinds.Pump job = refl
+
+relay_range : (kind : Kind) (r : Result Job ℕ) (command : Command) → ((job : Job) → r ≡ Ok job → IsInRange job) → ◌≡◌ {A = Result Command ℕ} (elim r [ Ok job ↦ Ok (command_with kind job) | Err at ↦ Err at ]) (Ok command) → IsInRange (job_of command)
+relay_range kind (Ok job) command h e = subst (λ (c : Command). IsInRange (job_of c)) (ok_is _ _ e) (subst (λ (j : Job). IsInRange j) (sym (its_job kind job)) (h job refl))
+relay_range kind (Err at) command h e = absurd cc
 
 words_range : (words : List (List ℕ)) (command : Command) → command_in words ≡ Ok command → IsInRange (job_of command)
 words_range [] command e = absurd cc
@@ -129,7 +134,7 @@ words_range (c ∷ i ∷ []) command e = absurd cc
 words_range (c ∷ i ∷ o ∷ keys) command e =
     let input = unwrap_or (framing_of i) Line in
     let output = unwrap_or (framing_of o) Line in
-    copy_range (job_with input output (keys_among keys)) command
+    relay_range (unwrap_or (kind_of c) kinds.Copy) (job_with input output (keys_among keys)) command
     (λ job. job_range input output keys (above (pause_in (keys_among keys)) (keys_among keys).resume) job refl) e
 
 pub in_range : (words : List (List ℕ)) (command : Command) → command_of words ≡ Ok command → IsInRange (job_of command)

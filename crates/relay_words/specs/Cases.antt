@@ -2,9 +2,16 @@
 use Rattle.std.specs.Prelude.{ℕ, ◌^◌, Result, Ok}
 use Rattle.frame_model.specs.declared.framing.Framing.{Framing}
 use Rattle.frame_model.specs.declared.framing.Framing.TheVariants.{Line}
+use Rattle.frame_model.specs.declared.job.Job.{Job}
 use Rattle.relay_words.specs.declared.command.Command.{Command}
-use Rattle.relay_words.specs.declared.command.Command.TheVariants.{Copy}
+use Rattle.relay_words.specs.declared.command.Command.TheVariants.{Copy, Pump}
 
--- A copy of lines, with these numbers of its job.
+-- A relay of lines, with these numbers.
+abbrev pub lines : Framing → ℕ → ℕ → ℕ → ℕ → Job
+lines output max seg pause resume = record { input = Line; output = output; max = max; seg = seg; pause = pause; resume = resume; limit = 2 ^ 40 }
+
 abbrev pub line_job : Framing → ℕ → ℕ → ℕ → ℕ → Result Command ℕ
-line_job output max seg pause resume = Ok (Copy (record { input = Line; output = output; max = max; seg = seg; pause = pause; resume = resume; limit = 2 ^ 40 }))
+line_job output max seg pause resume = Ok (Copy (lines output max seg pause resume))
+
+abbrev pub pumped_job : Framing → ℕ → ℕ → ℕ → ℕ → Result Command ℕ
+pumped_job output max seg pause resume = Ok (Pump (lines output max seg pause resume))

@@ -1,7 +1,7 @@
 //! Worked cases of the definitions, computed by the check. These functions do nothing.
 
 ghost use Rattle.std.specs.Prelude.{◌≡◌, ◌∷◌, [], codes, Some, None, Err};
-ghost use Rattle.relay_words.specs.Cases.{line_job};
+ghost use Rattle.relay_words.specs.Cases.{line_job, pumped_job};
 ghost use Rattle.relay_words.specs.Numbers.{number_of};
 ghost use Rattle.relay_words.specs.Words.{command_of};
 
@@ -42,4 +42,8 @@ pub fn word_cases()
     ensures never_pauses { command_of (codes "copy" ∷ codes "line" ∷ codes "len4" ∷ codes "pause=0" ∷ []) ≡ line_job Framing.Len4 65536 4096 0 32768 }
     ensures never_resumes { command_of (codes "copy" ∷ codes "line" ∷ codes "len4" ∷ codes "pause=0" ∷ codes "resume=70000" ∷ []) ≡ line_job Framing.Len4 65536 4096 0 70000 }
     ensures all_keys { command_of (codes "copy" ∷ codes "line" ∷ codes "len4" ∷ codes "resume=7" ∷ codes "seg=65536" ∷ codes "pause=7" ∷ codes "max=9" ∷ []) ≡ line_job Framing.Len4 9 65536 7 7 }
+    ensures pump { command_of (codes "pump" ∷ codes "line" ∷ codes "len2" ∷ codes "seg=64" ∷ []) ≡ pumped_job Framing.Len2 65536 64 65536 32768 }
+    ensures pump_alone { command_of (codes "pump" ∷ []) ≡ Err 1 }
+    ensures pumps { command_of (codes "pumps" ∷ codes "line" ∷ codes "len2" ∷ []) ≡ Err 0 }
+    ensures drill { command_of (codes "drill" ∷ codes "line" ∷ codes "len2" ∷ []) ≡ Err 0 }
 {}

@@ -8,6 +8,15 @@ use thiserror::Error;
 pub enum Command {
     /// Relays the source to the sink on one thread.
     Copy { job: Job },
+    /// The same on two threads.
+    Pump { job: Job },
+}
+
+/// A command without its job, as its word names it.
+#[derive(Clone, Copy)]
+pub enum Kind {
+    Copy,
+    Pump,
 }
 
 /// Words that are no command. `word` is the index, from 0, of the first one that can't be read where it stands, or the

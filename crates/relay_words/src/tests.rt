@@ -111,17 +111,25 @@ fn words_of_a_command(rt: HostRuntime) -> Result<(), Fail> {
     for (words, job) in cases {
         assert_eq!(rt; read(alloc, words)?, Ok(Command::Copy { job }));
     }
+    let pump = read(alloc, &["pump", "line", "len4", "seg=64"])?;
+    let job = Job { seg: 64, ..usual };
+    assert_eq!(rt; pump, Ok(Command::Pump { job }));
     Ok(())
 }
 
 #[test]
 fn words_of_no_command(rt: HostRuntime) -> Result<(), Fail> {
     let alloc = rt.alloc();
-    let cases: [(&[&str], usize); 30] = [
+    let cases: [(&[&str], usize); 35] = [
         (&[], 0),
         (&["Copy", "line", "len4"], 0),
         (&["copy "], 0),
-        (&["pump", "line", "len4"], 0),
+        (&["drill", "line", "len4"], 0),
+        (&["batch"], 0),
+        (&["serve"], 0),
+        (&["pump"], 1),
+        (&["pump", "line", "copy"], 2),
+        (&["pump", "line", "len4", "max=1", "max=1"], 4),
         (&["copy"], 1),
         (&["copy", "Line"], 1),
         (&["copy", "max=1", "len4"], 1),

@@ -3,9 +3,9 @@
 ghost use Rattle.std.specs.Prelude.{◌≡◌, IfErr, IfOk, Ok, Err};
 ghost use Rattle.frame_model.specs.Job.{IsInRange};
 ghost use Rattle.relay_words.specs.Keys.{above, number_or as number_or_of, usual_resume as usual_resume_of};
-ghost use Rattle.relay_words.specs.Words.{command_of, framing_of, job_of, job_with, texts};
+ghost use Rattle.relay_words.specs.Words.{command_of, command_with, framing_of, job_of, job_with, kind_of, texts};
 
-use crate::command::{Command, Usage};
+use crate::command::{Command, Kind, Usage};
 use crate::keys::{Given, Keys, keys_in};
 use frame_grammar::{Framing, Job};
 
@@ -40,9 +40,9 @@ fn command_in(words: &[String]) -> Result<Command, usize>
     let Some((command, rest)) = words.split_first() else {
         return Err(0);
     };
-    if command.as_str() != "copy" {
+    let Some(kind) = kind(command.as_str()) else {
         return Err(0);
-    }
+    };
     let Some((input, rest)) = rest.split_first() else {
         return Err(1);
     };
@@ -56,9 +56,26 @@ fn command_in(words: &[String]) -> Result<Command, usize>
         return Err(2);
     };
     let keys = keys_in(keys, words.len())?;
-    Ok(Command::Copy {
-        job: job(input, output, keys)?,
-    })
+    Ok(command_of_kind(kind, job(input, output, keys)?))
+}
+
+fn kind(word: &str) -> Option<Kind>
+    ensures { result ≡ kind_of word.now }
+{
+    match word {
+        "copy" => Some(Kind::Copy),
+        "pump" => Some(Kind::Pump),
+        _ => None,
+    }
+}
+
+fn command_of_kind(kind: Kind, job: Job) -> Command
+    ensures { result ≡ command_with kind job }
+{
+    match kind {
+        Kind::Copy => Command::Copy { job },
+        Kind::Pump => Command::Pump { job },
+    }
 }
 
 fn framing(word: &str) -> Option<Framing>

@@ -1,7 +1,7 @@
 -- The laws of a relay, at the run that was made.
 use Rattle.relay_model.specs.Run.{HasCause, IsComplete, TranslatesAll}
 use Rattle.relay_words.specs.Words.{job_of}
-use Rattle.relay_top.proofs.LocalLemmas.{by_law, no_usage, untouched, whole_at, without_memory}
+use Rattle.relay_top.proofs.RelayLemmas.{by_law, no_usage, untouched, whole_at, without_memory}
 use Rattle.relay_top.proofs.local.relay_local.Goals as goal
 
 pub returns-in-Ok-clause-translated : goal.returns-in-Ok-clause-translated

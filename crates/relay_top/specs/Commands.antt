@@ -1,0 +1,29 @@
+-- Which commands run on one thread, and what a relay does.
+use Rattle.std.specs.Prelude.{ℕ, ◌≡◌, ◌⊎◌, Bool, true, false, not, ◌||◌, List, [], ◌∷◌, codes}
+use Rattle.std.specs.Str.{bytes_eq}
+use Rattle.edge_core.specs.Device.{SourceState, SinkState}
+use Rattle.frame_model.specs.declared.job.Job.{Job}
+use Rattle.relay_model.specs.Lines.{IsWritten, memory_line}
+use Rattle.relay_model.specs.Run.{IsRelayed}
+use Rattle.relay_words.specs.declared.command.Command.{Command}
+use Rattle.relay_words.specs.declared.command.Command.TheVariants.{Copy, Pump}
+
+-- A first word that asks for more than one thread.
+abbrev pub is_threaded : List ℕ → Bool
+is_threaded word = bytes_eq word (codes "pump") || bytes_eq word (codes "drill") || bytes_eq word (codes "batch") || bytes_eq word (codes "serve")
+
+-- The first of these words asks for no more than one thread, or there is none.
+abbrev pub is_local : List (List ℕ) → Bool
+is_local [] = true
+is_local (command ∷ words) = not (is_threaded command)
+
+-- The command runs on one thread.
+abbrev pub runs_alone : Command → Bool
+runs_alone (Copy job) = true
+runs_alone (Pump job) = false
+
+-- There was no memory, and nothing was read or written but the line that says so; or a run passed.
+abbrev pub Relays : Job → ℕ → SourceState → SourceState → SinkState → SinkState → SinkState → SinkState → Type 0
+Relays job status source_before source_after sink_before sink_after faults_before faults_after =
+    ((status ≡ 6) × (source_after ≡ source_before) × (sink_after ≡ sink_before) × IsWritten memory_line faults_before faults_after)
+    ⊎ IsRelayed job status source_before source_after sink_before sink_after faults_before faults_after
