@@ -226,9 +226,9 @@ behind_read d h text drained = record { place = drained.place; passes = drained.
 pub as_reply : {P : Type 0} (at : P → List Call → Type 0) (others : Call → Type 0) (h : List Call) (reply reply' : ReadReply) (p : P) → reply ≡ reply' → CallsLater at others h Read (λ found. reply ≡ reply_to_read found) p → CallsLater at others h Read (λ found. reply' ≡ reply_to_read found) p
 as_reply at others h reply reply' p same called = record { found = called.found; later = called.later; so = sym same ∙ called.so; legal = called.legal; stands = called.stands }
 
-pub read_refused : {P A : Type 0} (at : P → List Call → Type 0) (others : Call → Type 0) (refuses : TryFault → P → P → Type 0) (lent : P → Option ℕ) (aside : P → A) (d : DrainingState) (p p' : P) (k : SinkState) (fault : TryFault) → d.owed ≡ None
-    → ((call : Call) → others call → seat_of call ≢ 1) → ((h : List Call) → at p h → HearsLater at others h p') → refuses fault p p' → lent p' ≡ lent p → lent p ≡ None → aside p' ≡ aside p → DrainsOnce at others refuses lent aside d p k (Err fault) d p' k
-read_refused at others refuses lent aside d p p' k fault fresh ours hears refused lends none kept = record {
+pub read_refused : {P A : Type 0} (at : P → List Call → Type 0) (others : Call → Type 0) (refuses : TryFault → P → P → Type 0) (exchanges : P → ℕ) (lent : P → Option ℕ) (aside : P → A) (d : DrainingState) (p p' : P) (k : SinkState) (fault : TryFault) → d.owed ≡ None
+    → ((call : Call) → others call → seat_of call ≢ 1) → ((h : List Call) → at p h → HearsLater at others h p') → refuses fault p p' → lent p' ≡ lent p → lent p ≡ None → aside p' ≡ aside p → exchanges p ≤ exchanges p' → DrainsOnce at others refuses exchanges lent aside d p k (Err fault) d p' k
+read_refused at others refuses exchanges lent aside d p p' k fault fresh ours hears refused lends none kept more = record {
   gain = [];
   gained = subst (λ (o : Option Owed). GainsBy o (owes_fault o) k [] k) (sym fresh) (takes_nothing k k refl);
   cause = λ h text is passed.
@@ -239,18 +239,19 @@ read_refused at others refuses lent aside d p p' k fault fresh ours hears refuse
         stands = heard.stands;
         how = (
           subst (λ (t : List ℕ). HasPassed d heard.found t) (sym (append-nil text)) (passed_of d heard.found text fresh (drained_later others ours d.drained h heard.found text heard.later heard.legal (drained_of d h text fresh passed))),
-          (p, refused),
+          record { found = p; behind = omega arith; refused = refused },
         );
       };
   job = refl;
   kept = kept;
+  exchanged = more;
   lends = lends ∙ none ∙ sym (ap (λ (o : Option Owed). lent_for o) fresh);
   within = subst (λ (o : Option Owed). IsWithin o) (sym fresh) tt;
 }
 
-pub read_pending : {P A : Type 0} (at : P → List Call → Type 0) (others : Call → Type 0) (refuses : TryFault → P → P → Type 0) (lent : P → Option ℕ) (aside : P → A) (d : DrainingState) (p p' : P) (k : SinkState) (n : ℕ) → d.owed ≡ None → ((call : Call) → others call → seat_of call ≢ 1)
-    → ((h : List Call) → at p h → CallsLater at others h Read (λ found. read.Pending n ≡ reply_to_read found) p') → lent p' ≡ None → aside p' ≡ aside p → DrainsOnce at others refuses lent aside d p k (Ok (Idle n)) d p' k
-read_pending at others refuses lent aside d p p' k n fresh ours reads none kept = record {
+pub read_pending : {P A : Type 0} (at : P → List Call → Type 0) (others : Call → Type 0) (refuses : TryFault → P → P → Type 0) (exchanges : P → ℕ) (lent : P → Option ℕ) (aside : P → A) (d : DrainingState) (p p' : P) (k : SinkState) (n : ℕ) → d.owed ≡ None → ((call : Call) → others call → seat_of call ≢ 1)
+    → ((h : List Call) → at p h → CallsLater at others h Read (λ found. read.Pending n ≡ reply_to_read found) p') → lent p' ≡ None → aside p' ≡ aside p → exchanges p ≤ exchanges p' → DrainsOnce at others refuses exchanges lent aside d p k (Ok (Idle n)) d p' k
+read_pending at others refuses exchanges lent aside d p p' k n fresh ours reads none kept more = record {
   gain = [];
   gained = subst (λ (o : Option Owed). GainsBy o false k [] k) (sym fresh) (takes_nothing k k refl);
   cause = λ h text is passed.
@@ -268,6 +269,7 @@ read_pending at others refuses lent aside d p p' k n fresh ours reads none kept 
       };
   job = refl;
   kept = kept;
+  exchanged = more;
   lends = none ∙ sym (ap (λ (o : Option Owed). lent_for o) fresh);
   within = subst (λ (o : Option Owed). IsWithin o) (sym fresh) tt;
 }
@@ -275,20 +277,20 @@ read_pending at others refuses lent aside d p p' k n fresh ours reads none kept 
 -- ---- behind a lend
 
 -- what the advance came to is what the step did
-step_by : {P : Type 0} (at : P → List Call → Type 0) (others : Call → Type 0) (refuses : TryFault → P → P → Type 0) (d d1 d' : DrainingState) (h found : List Call) (text gain : List ℕ) (p1 p' : P) (result : Result Progress TryFault) (owed : Owed) (k : List Call) → d.owed ≡ None
+step_by : {P : Type 0} (at : P → List Call → Type 0) (others : Call → Type 0) (refuses : TryFault → P → P → Type 0) (exchanges : P → ℕ) (d d1 d' : DrainingState) (h found : List Call) (text gain : List ℕ) (p p1 p' : P) (result : Result Progress TryFault) (owed : Owed) (k : List Call) → d.owed ≡ None → exchanges p ≤ exchanges p1
     → AdvancesBy at others refuses d1 owed (Read ∷ found) (text ++ gain) p1 result d' k p' → ((frames : ℕ) → owed.end ≡ None → frames ≡ owed.frames → d' ≡ record d1 { owed = None } → IsAdvanced others owed (Read ∷ found) k → MovesBy others None d h frames d' k)
-    → StepsBy at others refuses d h text gain result d' k p'
-step_by at others refuses d d1 d' h found text gain p1 p' (Ok (Idle n)) owed k fresh how moves = absurd how
-step_by at others refuses d d1 d' h found text gain p1 p' (Ok (Moved frames)) owed k fresh how moves = (
+    → StepsBy at others refuses exchanges d h text gain p result d' k p'
+step_by at others refuses exchanges d d1 d' h found text gain p p1 p' (Ok (Idle n)) owed k fresh first how moves = absurd how
+step_by at others refuses exchanges d d1 d' h found text gain p p1 p' (Ok (Moved frames)) owed k fresh first how moves = (
   subst (λ (o : Option Owed). MovesBy others o d h frames d' k) (sym fresh) (moves frames how.0 how.1 how.4 how.2),
   ap (λ e. e.owed) how.4,
   subst (λ (e : DrainingState). IsDrained e.drained k (text ++ gain)) (sym how.4) how.3,
 )
-step_by at others refuses d d1 d' h found text gain p1 p' (Ok (Ended end)) owed k fresh how moves =
+step_by at others refuses exchanges d d1 d' h found text gain p p1 p' (Ok (Ended end)) owed k fresh first how moves =
     subst (λ (e : DrainingState). Concludes e.drained.job e.drained.frames e.drained.written k (text ++ gain) end) (sym how.3) how.2
-step_by at others refuses d d1 d' h found text gain p1 p' (Err fault) owed k fresh how moves = (
+step_by at others refuses exchanges d d1 d' h found text gain p p1 p' (Err fault) owed k fresh first how moves = (
   subst (λ (e : DrainingState). HasPassed e k (text ++ gain)) (sym how.3) how.1,
-  (p1, how.2),
+  record { found = p1; behind = first; refused = how.2 },
 )
 
 advanced_goes : {P : Type 0} (at : P → List Call → Type 0) (others : Call → Type 0) (refuses : TryFault → P → P → Type 0) (d d' : DrainingState) (owed : Owed) (h : List Call) (text : List ℕ) (p p' : P) (result : Result Progress TryFault) (k : List Call) → AdvancesBy at others refuses d owed h text p result d' k p' → GoesOn others h k
@@ -301,12 +303,12 @@ advanced_goes at others refuses d d' owed h text p p' (Ok (Ended end)) k how =
     subst (λ (x : List Call). GoesOn others h x) (sym how.1.is) (with_call others h how.1.found (Advance owed.passed owed.len) refl (later_goes others h how.1.found how.1.later))
 advanced_goes at others refuses d d' owed h text p p' (Err fault) k how = later_goes others h k how.0
 
-pub read_passed : {P A : Type 0} (at : P → List Call → Type 0) (others : Call → Type 0) (refuses : TryFault → P → P → Type 0) (lent : P → Option ℕ) (aside : P → A) (d d1 d' : DrainingState) (p p1 p' : P) (before after : SinkState) (canceled : Bool) (ended : Option ℕ) (len : ℕ) (bytes : List ℕ) (owed : Owed) (result : Result Progress TryFault)
+pub read_passed : {P A : Type 0} (at : P → List Call → Type 0) (others : Call → Type 0) (refuses : TryFault → P → P → Type 0) (exchanges : P → ℕ) (lent : P → Option ℕ) (aside : P → A) (d d1 d' : DrainingState) (p p1 p' : P) (before after : SinkState) (canceled : Bool) (ended : Option ℕ) (len : ℕ) (bytes : List ℕ) (owed : Owed) (result : Result Progress TryFault)
     → d.owed ≡ None → ((call : Call) → others call → seat_of call ≢ 1) → ((h : List Call) → at p h → CallsLater at others h Read (λ found. read.Ready canceled ended len ≡ reply_to_read found) p1) → ((h : List Call) → at p1 h → lend h ≡ Some bytes)
     → PassesLend ended bytes d.drained before (Some owed) d1.drained after
     → ((h : List Call) (text : List ℕ) → at p1 h → Owes d1.drained owed h text → AdvancesTo at others refuses d1 owed h text p1 result d' p') → d'.drained ≡ d1.drained → has_failed result d' ≡ is_fault owed.end
-    → aside p' ≡ aside p → IfMore result (lent p' ≡ lent_for d'.owed) → IsWithin d'.owed → DrainsOnce at others refuses lent aside d p before result d' p' after
-read_passed at others refuses lent aside d d1 d' p p1 p' before after canceled ended len bytes owed result fresh ours reads lends passes advanced same failed kept lent_is within =
+    → aside p' ≡ aside p → exchanges p ≤ exchanges p1 → exchanges p1 ≤ exchanges p' → IfMore result (lent p' ≡ lent_for d'.owed) → IsWithin d'.owed → DrainsOnce at others refuses exchanges lent aside d p before result d' p' after
+read_passed at others refuses exchanges lent aside d d1 d' p p1 p' before after canceled ended len bytes owed result fresh ours reads lends passes advanced same failed kept first second lent_is within =
     let drained = passes.0 in
     let written = passes.1 in
     let drains = passes.2 in
@@ -329,7 +331,7 @@ read_passed at others refuses lent aside d d1 d' p p1 p' before after canceled e
             on = goes_further others h (Read ∷ found) a.now read_on (advanced_goes at others refuses d1 d' owed (Read ∷ found) (text ++ gain) p1 p' result a.now a.how);
             legal = a.legal;
             stands = a.stands;
-            how = step_by at others refuses d d1 d' h found text gain p1 p' result owed a.now fresh a.how (λ frames none told same_d is_advanced.
+            how = step_by at others refuses exchanges d d1 d' h found text gain p p1 p' result owed a.now fresh first a.how (λ frames none told same_d is_advanced.
                 let so = goes_on_so drained.stop ended d1.drained.place (none_at drained.stop ended d1.drained.place _ written after owed.end refl passes.7 none) in
                 let all = passed_all d.drained found text gain (is_success ended) drained.passed drained.frames at_found (subst (λ (x : List ℕ). Passes d.drained.job x (is_success ended) drained.passed drained.frames gain) same_lent drains.passes) in
                 record {
@@ -344,6 +346,7 @@ read_passed at others refuses lent aside d d1 d' p p1 p' before after canceled e
           };
       job = ap (λ e. e.job) same ∙ ap (λ e. e.job) passes.3;
       kept = kept;
+      exchanged = omega (arith, first, second);
       lends = lent_is;
       within = within;
     }
@@ -352,10 +355,10 @@ read_passed at others refuses lent aside d d1 d' p p1 p' before after canceled e
     none_at stop ended place None written after owed_end at ends_owed none = at
     none_at stop ended place (Some end) written after owed_end at ends_owed none = let both = sym ends_owed.1 ∙ none in absurd cc
 
-pub read_broken : {P A : Type 0} (at : P → List Call → Type 0) (others : Call → Type 0) (refuses : TryFault → P → P → Type 0) (lent : P → Option ℕ) (aside : P → A) (d d1 : DrainingState) (p p1 : P) (before after : SinkState) (canceled : Bool) (ended : Option ℕ) (len : ℕ) (bytes : List ℕ)
+pub read_broken : {P A : Type 0} (at : P → List Call → Type 0) (others : Call → Type 0) (refuses : TryFault → P → P → Type 0) (exchanges : P → ℕ) (lent : P → Option ℕ) (aside : P → A) (d d1 : DrainingState) (p p1 : P) (before after : SinkState) (canceled : Bool) (ended : Option ℕ) (len : ℕ) (bytes : List ℕ)
     → d.owed ≡ None → d1.owed ≡ d.owed → ((call : Call) → others call → seat_of call ≢ 1) → ((h : List Call) → at p h → CallsLater at others h Read (λ found. read.Ready canceled ended len ≡ reply_to_read found) p1) → ((h : List Call) → at p1 h → lend h ≡ Some bytes)
-    → PassesLend ended bytes d.drained before None d1.drained after → aside p1 ≡ aside p → DrainsOnce at others refuses lent aside d p before (Ok (Ended ends.SinkFault)) d1 p1 after
-read_broken at others refuses lent aside d d1 p p1 before after canceled ended len bytes fresh still ours reads lends passes kept =
+    → PassesLend ended bytes d.drained before None d1.drained after → aside p1 ≡ aside p → exchanges p ≤ exchanges p1 → DrainsOnce at others refuses exchanges lent aside d p before (Ok (Ended ends.SinkFault)) d1 p1 after
+read_broken at others refuses exchanges lent aside d d1 p p1 before after canceled ended len bytes fresh still ours reads lends passes kept more =
     let broken = passes.0 in
     let breaks = passes.1 in
     let gain = breaks.text ++ breaks.part in
@@ -380,16 +383,17 @@ read_broken at others refuses lent aside d d1 p p1 before after canceled ended l
           };
       job = ap (λ e. e.job) passes.2;
       kept = kept;
+      exchanged = more;
       lends = tt;
       within = subst (λ (o : Option Owed). IsWithin o) (sym (still ∙ fresh)) tt;
     }
 
 -- ---- a step that makes what is owed
 
-pub owed_step : {P A : Type 0} (at : P → List Call → Type 0) (others : Call → Type 0) (refuses : TryFault → P → P → Type 0) (lent : P → Option ℕ) (aside : P → A) (d d' : DrainingState) (p p' : P) (k : SinkState) (owed : Owed) (result : Result Progress TryFault) → d.owed ≡ Some owed
-    → ((h : List Call) (text : List ℕ) → at p h → Owes d.drained owed h text → AdvancesTo at others refuses d owed h text p result d' p') → d'.drained ≡ d.drained → aside p' ≡ aside p
-    → has_failed result d' ≡ is_fault owed.end → IfMore result (lent p' ≡ lent_for d'.owed) → IsWithin d'.owed → DrainsOnce at others refuses lent aside d p k result d' p' k
-owed_step at others refuses lent aside d d' p p' k owed result owes_it advanced same kept failed lends within = record {
+pub owed_step : {P A : Type 0} (at : P → List Call → Type 0) (others : Call → Type 0) (refuses : TryFault → P → P → Type 0) (exchanges : P → ℕ) (lent : P → Option ℕ) (aside : P → A) (d d' : DrainingState) (p p' : P) (k : SinkState) (owed : Owed) (result : Result Progress TryFault) → d.owed ≡ Some owed
+    → ((h : List Call) (text : List ℕ) → at p h → Owes d.drained owed h text → AdvancesTo at others refuses d owed h text p result d' p') → d'.drained ≡ d.drained → aside p' ≡ aside p → exchanges p ≤ exchanges p'
+    → has_failed result d' ≡ is_fault owed.end → IfMore result (lent p' ≡ lent_for d'.owed) → IsWithin d'.owed → DrainsOnce at others refuses exchanges lent aside d p k result d' p' k
+owed_step at others refuses exchanges lent aside d d' p p' k owed result owes_it advanced same kept more failed lends within = record {
   gain = [];
   gained = subst (λ (o : Option Owed). GainsBy o (has_failed result d') k [] k) (sym owes_it) (refl, refl, failed);
   cause = λ h text is passed.
@@ -398,25 +402,26 @@ owed_step at others refuses lent aside d d' p p' k owed result owes_it advanced 
         on = advanced_goes at others refuses d d' owed h text p p' result a.now a.how;
         legal = a.legal;
         stands = a.stands;
-        how = owed_by at others refuses d d' owed h text p p' result a.now owes_it a.how;
+        how = owed_by at others refuses exchanges d d' owed h text p p' result a.now owes_it a.how;
       };
   job = ap (λ e. e.job) same;
   kept = kept;
+  exchanged = more;
   lends = lends;
   within = within;
 }
   where
-    owed_by : {P : Type 0} (at : P → List Call → Type 0) (others : Call → Type 0) (refuses : TryFault → P → P → Type 0) (d d' : DrainingState) (owed : Owed) (h : List Call) (text : List ℕ) (p p' : P) (result : Result Progress TryFault) (k : List Call) → d.owed ≡ Some owed → AdvancesBy at others refuses d owed h text p result d' k p' → StepsBy at others refuses d h text [] result d' k p'
-    owed_by at others refuses d d' owed h text p p' (Ok (Idle n)) k owes_it how = absurd how
-    owed_by at others refuses d d' owed h text p p' (Ok (Moved frames)) k owes_it how = (
+    owed_by : {P : Type 0} (at : P → List Call → Type 0) (others : Call → Type 0) (refuses : TryFault → P → P → Type 0) (exchanges : P → ℕ) (d d' : DrainingState) (owed : Owed) (h : List Call) (text : List ℕ) (p p' : P) (result : Result Progress TryFault) (k : List Call) → d.owed ≡ Some owed → AdvancesBy at others refuses d owed h text p result d' k p' → StepsBy at others refuses exchanges d h text [] p result d' k p'
+    owed_by at others refuses exchanges d d' owed h text p p' (Ok (Idle n)) k owes_it how = absurd how
+    owed_by at others refuses exchanges d d' owed h text p p' (Ok (Moved frames)) k owes_it how = (
       subst (λ (o : Option Owed). MovesBy others o d h frames d' k) (sym owes_it) (how.1, ap (λ e. e.drained) how.4),
       ap (λ e. e.owed) how.4,
       subst (λ (t : List ℕ). IsDrained d'.drained k t) (sym (append-nil text)) (subst (λ (e : DrainingState). IsDrained e.drained k text) (sym how.4) how.3),
     )
-    owed_by at others refuses d d' owed h text p p' (Ok (Ended end)) k owes_it how =
+    owed_by at others refuses exchanges d d' owed h text p p' (Ok (Ended end)) k owes_it how =
         subst (λ (t : List ℕ). Concludes d'.drained.job d'.drained.frames d'.drained.written k t end) (sym (append-nil text))
         (subst (λ (e : DrainingState). Concludes e.drained.job e.drained.frames e.drained.written k text end) (sym how.3) how.2)
-    owed_by at others refuses d d' owed h text p p' (Err fault) k owes_it how = (
+    owed_by at others refuses exchanges d d' owed h text p p' (Err fault) k owes_it how = (
       subst (λ (t : List ℕ). HasPassed d' k t) (sym (append-nil text)) (subst (λ (e : DrainingState). HasPassed e k text) (sym how.3) how.1),
-      (p, how.2),
+      record { found = p; behind = omega arith; refused = how.2 },
     )

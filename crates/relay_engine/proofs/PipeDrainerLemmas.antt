@@ -1,5 +1,5 @@
 -- The steps of a drainer on a pipe for two threads.
-use Rattle.std.proofs.Common.{◌≡◌, ℕ, Bool, true, false, List, [], ◌∷◌, ◌++◌, Option, Some, None, IsSomeAnd, Result, Ok, Err, refl, sym, ap, ◌∙◌, subst, append-nil}
+use Rattle.std.proofs.Common.{◌≤◌, ◌≡◌, ℕ, Bool, true, false, List, [], ◌∷◌, ◌++◌, Option, Some, None, IsSomeAnd, Result, Ok, Err, refl, sym, ap, ◌∙◌, subst, append-nil, arith}
 use Rattle.std.specs.Prelude.{length, option_map, unwrap_or}
 use Rattle.std.proofs.KnownBytes.{Appends-trans}
 use Rattle.edge_core.specs.Device.{SinkState, Takes}
@@ -15,14 +15,14 @@ use Rattle.pipe_core.specs.Answers.{Woke}
 use Rattle.frame_model.specs.declared.job.Job.{Job}
 use Rattle.pipe_shared.specs.declared.options.Options.{Options}
 use Rattle.pipe_shared.specs.Heard.{CallsBehind}
-use Rattle.pipe_shared.specs.Turns.{Makes, Refuses, Seat}
+use Rattle.pipe_shared.specs.Turns.{Makes, Seat}
 use Rattle.pipe_shared.specs.Ends.{Reader}
 use Rattle.relay_engine.specs.Drainer.{IsDrained, end_code}
 use Rattle.relay_engine.specs.Ending.{is_sink_fault}
 use Rattle.relay_engine.specs.Sides.{Concludes, HasDrained}
 use Rattle.relay_engine.specs.Sides.{GainsBy as SideGains}
-use Rattle.relay_engine.specs.ReaderEnds.{HasRead, RefusesReader, lent_len, nothing_aside}
-use Rattle.relay_engine.specs.Draining.{DrainingState, DrainsOnce, GainsBy, GainsIf, HasPassed, Idles, IsWithin, MovesBy, Stands, is_fault, lent_for, owes_fault}
+use Rattle.relay_engine.specs.ReaderEnds.{HasRead, RefusesReader, exchanges_of, lent_len, nothing_aside}
+use Rattle.relay_engine.specs.Draining.{DrainingState, DrainsOnce, GainsBy, GainsIf, HasPassed, Idles, IsRefused, IsWithin, MovesBy, Stands, is_fault, lent_for, owes_fault}
 use Rattle.relay_engine.specs.PipeDrainer.{BehindStep, CompletesFor, DrainerState, EndsReader, GainsFor, IsDone, IsDraining, IsOfPipe, NotReaders, RefusesToEnd, StandsAt, StepsDrainer, end_by, owes_end, refused_step, seen_by}
 use Rattle.relay_engine.specs.PipeDrainer.{has_failed as step_has_failed}
 use Rattle.relay_engine.specs.declared.drain_end.DrainEnd.{DrainEnd}
@@ -42,7 +42,7 @@ same_some o a b first second = ap (λ x. unwrap_or x a) (sym first ∙ second)
 
 -- The core's step, from a reader's end to a reader's end.
 abbrev Drains : DrainingState → Reader → SinkState → Result Progress TryFault → DrainingState → Reader → SinkState → Type 0
-Drains d r before result d' r' after = DrainsOnce HasRead NotReaders RefusesReader lent_len nothing_aside d r before result d' r' after
+Drains d r before result d' r' after = DrainsOnce HasRead NotReaders RefusesReader exchanges_of lent_len nothing_aside d r before result d' r' after
 
 -- the state before it
 record Begins (d : DrainerState) (r : Reader) (text : List ℕ) : Type 0 where
@@ -111,7 +111,7 @@ was_refused d d' r r' before after (try.Busy word) end going end' going' once = 
   behind = λ text from.
       let b = begins d r text end going from in
       let a = once.cause (seen_by r) text (refl, b.1.legal) b.1.passed in
-      subst (λ (x : Reader). BehindStep (Busy word) d x once.gain d' (text ++ once.gain)) (sym b.0) (goes_to d' r' a.now (text ++ once.gain) end' going' a.stands a.how.0 once.lends once.within, (a.how.1.0.seat, a.how.1.1));
+      subst (λ (x : Reader). BehindStep (Busy word) d x once.gain d' (text ++ once.gain)) (sym b.0) (goes_to d' r' a.now (text ++ once.gain) end' going' a.stands a.how.0 once.lends once.within, a.how.1);
   job = once.job;
 }
 was_refused d d' r r' before after (try.Worn entries) end going end' going' once = record {
@@ -122,7 +122,7 @@ was_refused d d' r r' before after (try.Worn entries) end going end' going' once
   behind = λ text from.
       let b = begins d r text end going from in
       let a = once.cause (seen_by r) text (refl, b.1.legal) b.1.passed in
-      subst (λ (x : Reader). BehindStep (Worn entries) d x once.gain d' (text ++ once.gain)) (sym b.0) (goes_to d' r' a.now (text ++ once.gain) end' going' a.stands a.how.0 once.lends once.within, (a.how.1.0.seat, a.how.1.1));
+      subst (λ (x : Reader). BehindStep (Worn entries) d x once.gain d' (text ++ once.gain)) (sym b.0) (goes_to d' r' a.now (text ++ once.gain) end' going' a.stands a.how.0 once.lends once.within, a.how.1);
   job = once.job;
 }
 
@@ -144,8 +144,8 @@ ended_by d d' dr r end text same done legal c =
       own = e.own;
     }
 
-still_owed : (d' : DrainerState) (dr : DrainingState) (r : Reader) (fault : TryFault) (end : DrainEnd) (text : List ℕ) → (owes : RefusesToEnd fault end dr r d') → IsLegal (seen_by r) → Concludes dr.drained.job dr.drained.frames dr.drained.written (seen_by r) text end → (to : IsDraining d' text) × ((before : Seat) × Refuses fault before to.reader.seat)
-still_owed d' dr r fault end text owes legal c =
+still_owed : (d' : DrainerState) (dr : DrainingState) (r0 r : Reader) (fault : TryFault) (end : DrainEnd) (text : List ℕ) → (owes : RefusesToEnd fault end dr r d') → exchanges_of r0 ≤ exchanges_of r → IsLegal (seen_by r) → Concludes dr.drained.job dr.drained.frames dr.drained.written (seen_by r) text end → (to : IsDraining d' text) × IsRefused RefusesReader exchanges_of fault r0 to.reader
+still_owed d' dr r0 r fault end text owes more legal c =
     let now : IsLegal (seen_by owes.reader) = legal_behind fault r.seat owes.reader.seat owes.refused legal in (
       record {
         reader = owes.reader;
@@ -156,7 +156,7 @@ still_owed d' dr r fault end text owes legal c =
             (subst (λ (x : List Call). Concludes dr.drained.job dr.drained.frames dr.drained.written x text end) (sym owes.hears.seen)
             (concludes_later dr.drained.job dr.drained.frames dr.drained.written (seen_by r) text end owes.hears.heard owes.hears.others (subst (λ (x : List Call). IsLegal x) owes.hears.seen now) c));
       },
-      (r.seat, owes.refused),
+      record { found = r; behind = more; refused = owes.refused },
     )
 
 -- a completion was made, or refused, by a step that had come to an end
@@ -181,7 +181,7 @@ ended d d' dr r r' before after end (Busy word) has going once completes = recor
   behind = λ text from.
       let b = begins d r text has going from in
       let a = once.cause (seen_by r) text (refl, b.1.legal) b.1.passed in
-      still_owed d' dr r' (try.Busy word) end (text ++ once.gain) completes (subst (λ (x : List Call). IsLegal x) a.stands.0 a.stands.1) (subst (λ (x : List Call). Concludes dr.drained.job dr.drained.frames dr.drained.written x (text ++ once.gain) end) a.stands.0 a.how);
+      subst (λ (x : Reader). (to : IsDraining d' (text ++ once.gain)) × IsRefused RefusesReader exchanges_of (try.Busy word) x to.reader) (sym b.0) (still_owed d' dr r r' (try.Busy word) end (text ++ once.gain) completes once.exchanged (subst (λ (x : List Call). IsLegal x) a.stands.0 a.stands.1) (subst (λ (x : List Call). Concludes dr.drained.job dr.drained.frames dr.drained.written x (text ++ once.gain) end) a.stands.0 a.how));
   job = ap (λ e. e.draining.drained.job) completes.drainer ∙ once.job;
 }
 ended d d' dr r r' before after end (Worn entries) has going once completes = record {
@@ -192,7 +192,7 @@ ended d d' dr r r' before after end (Worn entries) has going once completes = re
   behind = λ text from.
       let b = begins d r text has going from in
       let a = once.cause (seen_by r) text (refl, b.1.legal) b.1.passed in
-      still_owed d' dr r' (try.Worn entries) end (text ++ once.gain) completes (subst (λ (x : List Call). IsLegal x) a.stands.0 a.stands.1) (subst (λ (x : List Call). Concludes dr.drained.job dr.drained.frames dr.drained.written x (text ++ once.gain) end) a.stands.0 a.how);
+      subst (λ (x : Reader). (to : IsDraining d' (text ++ once.gain)) × IsRefused RefusesReader exchanges_of (try.Worn entries) x to.reader) (sym b.0) (still_owed d' dr r r' (try.Worn entries) end (text ++ once.gain) completes once.exchanged (subst (λ (x : List Call). IsLegal x) a.stands.0 a.stands.1) (subst (λ (x : List Call). Concludes dr.drained.job dr.drained.frames dr.drained.written x (text ++ once.gain) end) a.stands.0 a.how));
   job = ap (λ e. e.draining.drained.job) completes.drainer ∙ once.job;
 }
 
@@ -230,7 +230,7 @@ completed d d' r k end (Busy word) has ending completes = record {
   gained = subst (λ (o : Option DrainEnd). GainsFor o d.draining.owed (owes_end d'.ending d'.draining.owed) k [] k) (sym ending) (refl, refl, ap (λ e. owes_end e.ending e.draining.owed) completes.drainer);
   behind = λ text from.
       let c = concluded d r end text has ending from in
-      subst (λ (t : List ℕ). (to : IsDraining d' t) × ((before : Seat) × Refuses (try.Busy word) before to.reader.seat)) (sym (append-nil text)) (still_owed d' d.draining r (try.Busy word) end text completes c.1.legal c.1.concludes);
+      subst (λ (t : List ℕ). (to : IsDraining d' t) × IsRefused RefusesReader exchanges_of (try.Busy word) from.reader to.reader) (sym (append-nil text)) (subst (λ (x : Reader). (to : IsDraining d' text) × IsRefused RefusesReader exchanges_of (try.Busy word) x to.reader) (sym c.0) (still_owed d' d.draining r r (try.Busy word) end text completes (omega arith) c.1.legal c.1.concludes));
   job = ap (λ e. e.draining.drained.job) completes.drainer;
 }
 completed d d' r k end (Worn entries) has ending completes = record {
@@ -238,7 +238,7 @@ completed d d' r k end (Worn entries) has ending completes = record {
   gained = subst (λ (o : Option DrainEnd). GainsFor o d.draining.owed (owes_end d'.ending d'.draining.owed) k [] k) (sym ending) (refl, refl, ap (λ e. owes_end e.ending e.draining.owed) completes.drainer);
   behind = λ text from.
       let c = concluded d r end text has ending from in
-      subst (λ (t : List ℕ). (to : IsDraining d' t) × ((before : Seat) × Refuses (try.Worn entries) before to.reader.seat)) (sym (append-nil text)) (still_owed d' d.draining r (try.Worn entries) end text completes c.1.legal c.1.concludes);
+      subst (λ (t : List ℕ). (to : IsDraining d' t) × IsRefused RefusesReader exchanges_of (try.Worn entries) from.reader to.reader) (sym (append-nil text)) (subst (λ (x : Reader). (to : IsDraining d' text) × IsRefused RefusesReader exchanges_of (try.Worn entries) x to.reader) (sym c.0) (still_owed d' d.draining r r (try.Worn entries) end text completes (omega arith) c.1.legal c.1.concludes));
   job = ap (λ e. e.draining.drained.job) completes.drainer;
 }
 

@@ -33,7 +33,7 @@ use Rattle.relay_engine.specs.Filler.{written, end_code}
 use Rattle.relay_engine.specs.Filling.{FillingState}
 use Rattle.relay_engine.specs.Later.{Later}
 use Rattle.relay_engine.specs.Drainer.{DrainState, IsDrained}
-use Rattle.relay_engine.specs.ReaderEnds.{Aside, aside_local, lent_local}
+use Rattle.relay_engine.specs.ReaderEnds.{Aside, aside_local, lent_local, no_exchanges}
 use Rattle.relay_engine.specs.LocalEnds.{HoldsLocal, NoOthers, RefusesNone}
 use Rattle.relay_engine.specs.Draining.{DrainingState, DrainsOnce, GainsBy, GoesOn, HasPassed, MovesBy, Stands, lent_for}
 use Rattle.relay_engine.specs.declared.draining.Owed.{Owed}
@@ -80,7 +80,7 @@ fuel f p ending = 2 * (f.limit - f.taken) + (if is_none ending then 1 else 0) + 
 
 -- A step of the drainer.
 abbrev pub Drains : DrainingState → Local → SinkState → Progress → DrainingState → Local → SinkState → Type 0
-Drains d p before progress d' p' after = DrainsOnce HoldsLocal NoOthers RefusesNone lent_local aside_local d p before (Ok progress) d' p' after
+Drains d p before progress d' p' after = DrainsOnce HoldsLocal NoOthers RefusesNone no_exchanges lent_local aside_local d p before (Ok progress) d' p' after
 
 -- ---- the start
 
@@ -358,8 +358,8 @@ rest_less f p None left none less = omega (arith, less)
 rest_less f p (Some end) left none less = absurd cc
 
 -- a read was not refused
-pub never_refused : (job : Job) (sb s : SourceState) (kb k k' : SinkState) (f : FillingState) (d d' : DrainingState) (p p' : Local) (ending : Option FillEnd) (fault : TryFault) → Pumps job sb s kb k f d p ending → DrainsOnce HoldsLocal NoOthers RefusesNone lent_local aside_local d p k (Err fault) d' p' k' → ⊥
-never_refused job sb s kb k k' f d d' p p' ending fault on once = (once.cause on.h on.text on.holds (so_far d on.h on.text on.fresh on.goes.drained)).how.1.1
+pub never_refused : (job : Job) (sb s : SourceState) (kb k k' : SinkState) (f : FillingState) (d d' : DrainingState) (p p' : Local) (ending : Option FillEnd) (fault : TryFault) → Pumps job sb s kb k f d p ending → DrainsOnce HoldsLocal NoOthers RefusesNone no_exchanges lent_local aside_local d p k (Err fault) d' p' k' → ⊥
+never_refused job sb s kb k k' f d d' p p' ending fault on once = (once.cause on.h on.text on.holds (so_far d on.h on.text on.fresh on.goes.drained)).how.1.refused
 
 -- where the next step of the drainer may come
 pub lends_none : (d' : DrainingState) (p' : Local) → d'.owed ≡ None → lent_local p' ≡ lent_for d'.owed → lent_local p' ≡ None

@@ -93,20 +93,26 @@ abbrev pub MovesBy : (Call → Type 0) → Option Owed → DrainingState → Lis
 MovesBy others None d h frames d' k = MovesOn others d h frames d' k
 MovesBy others (Some owed) d h frames d' k = (frames ≡ owed.frames) × (d'.drained ≡ d.drained)
 
-module _ {P : Type 0} (at : P → List Call → Type 0) (others : Call → Type 0) (refuses : TryFault → P → P → Type 0) where
-  -- Why a step answered so, of a drainer that had seen h and had written `text`. With the step it has seen k.
-  abbrev pub StepsBy : DrainingState → List Call → List ℕ → List ℕ → Result Progress TryFault → DrainingState → List Call → P → Type 0
-  StepsBy d h text gain (Ok (Idle examined_told)) d' k p' = Idles others d h gain examined_told d' k × HasPassed d' k text
-  StepsBy d h text gain (Ok (Moved frames)) d' k p' = MovesBy others d.owed d h frames d' k × (d'.owed ≡ None) × IsDrained d'.drained k (text ++ gain)
-  StepsBy d h text gain (Ok (Ended end)) d' k p' = Concludes d'.drained.job d'.drained.frames d'.drained.written k (text ++ gain) end
-  StepsBy d h text gain (Err fault) d' k p' = HasPassed d' k (text ++ gain) × ((q : P) × refuses fault q p')
+-- A call of the step was refused so. What stood before it had made no fewer exchanges than what stood before the step.
+pub record IsRefused {P : Type 0} (refuses : TryFault → P → P → Type 0) (exchanges : P → ℕ) (fault : TryFault) (p p' : P) : Type 0 where
+  pub found : P
+  pub behind : exchanges p ≤ exchanges found
+  pub refused : refuses fault found p'
 
-  pub record StepsTo (d : DrainingState) (h : List Call) (text gain : List ℕ) (result : Result Progress TryFault) (d' : DrainingState) (p' : P) : Type 0 where
+module _ {P : Type 0} (at : P → List Call → Type 0) (others : Call → Type 0) (refuses : TryFault → P → P → Type 0) (exchanges : P → ℕ) where
+  -- Why a step answered so, of a drainer that had seen h and had written `text`. With the step it has seen k.
+  abbrev pub StepsBy : DrainingState → List Call → List ℕ → List ℕ → P → Result Progress TryFault → DrainingState → List Call → P → Type 0
+  StepsBy d h text gain p (Ok (Idle examined_told)) d' k p' = Idles others d h gain examined_told d' k × HasPassed d' k text
+  StepsBy d h text gain p (Ok (Moved frames)) d' k p' = MovesBy others d.owed d h frames d' k × (d'.owed ≡ None) × IsDrained d'.drained k (text ++ gain)
+  StepsBy d h text gain p (Ok (Ended end)) d' k p' = Concludes d'.drained.job d'.drained.frames d'.drained.written k (text ++ gain) end
+  StepsBy d h text gain p (Err fault) d' k p' = HasPassed d' k (text ++ gain) × IsRefused refuses exchanges fault p p'
+
+  pub record StepsTo (d : DrainingState) (h : List Call) (text gain : List ℕ) (p : P) (result : Result Progress TryFault) (d' : DrainingState) (p' : P) : Type 0 where
     pub now : List Call
     pub on : GoesOn others h now
     pub legal : IsLegal now
     pub stands : at p' now
-    pub how : StepsBy d h text gain result d' now p'
+    pub how : StepsBy d h text gain p result d' now p'
 
 abbrev pub is_fault : Option DrainEnd → Bool
 is_fault None = false
@@ -138,12 +144,13 @@ IfMore (Ok (Ended end)) P = Unit {0}
 IfMore result P = P
 
 -- One step on the reading end of a pipe, of which `at` says for which histories it stands and `lent` how long its lend is.
-pub record DrainsOnce {P A : Type 0} (at : P → List Call → Type 0) (others : Call → Type 0) (refuses : TryFault → P → P → Type 0) (lent : P → Option ℕ) (aside : P → A) (d : DrainingState) (p : P) (before : SinkState) (result : Result Progress TryFault) (d' : DrainingState) (p' : P) (after : SinkState) : Type 0 where
+pub record DrainsOnce {P A : Type 0} (at : P → List Call → Type 0) (others : Call → Type 0) (refuses : TryFault → P → P → Type 0) (exchanges : P → ℕ) (lent : P → Option ℕ) (aside : P → A) (d : DrainingState) (p : P) (before : SinkState) (result : Result Progress TryFault) (d' : DrainingState) (p' : P) (after : SinkState) : Type 0 where
   pub gain : List ℕ
   pub gained : GainsBy d.owed (has_failed result d') before gain after
-  pub cause : (h : List Call) (text : List ℕ) → at p h → HasPassed d h text → StepsTo at others refuses d h text gain result d' p'
+  pub cause : (h : List Call) (text : List ℕ) → at p h → HasPassed d h text → StepsTo at others refuses exchanges d h text gain p result d' p'
   pub job : d'.drained.job ≡ d.drained.job
   pub kept : aside p' ≡ aside p
+  pub exchanged : exchanges p ≤ exchanges p'
   -- So the next step may come, if this one isn't the last.
   pub lends : IfMore result (lent p' ≡ lent_for d'.owed)
   pub within : IsWithin d'.owed

@@ -15,9 +15,9 @@ use Rattle.pipe_shared.specs.Heard.{CallsBehind, Hears}
 use Rattle.pipe_shared.specs.Ends.{Reader}
 use Rattle.relay_engine.specs.Ending.{is_sink_fault}
 use Rattle.relay_engine.specs.Drainer.{end_code}
-use Rattle.relay_engine.specs.ReaderEnds.{lent_len}
+use Rattle.relay_engine.specs.ReaderEnds.{RefusesReader, exchanges_of, lent_len}
 use Rattle.relay_engine.specs.Sides.{Concludes}
-use Rattle.relay_engine.specs.Draining.{DrainingState, GainsBy, HasPassed, Idles, IsWithin, MovesBy, lent_for, owes_fault}
+use Rattle.relay_engine.specs.Draining.{DrainingState, GainsBy, HasPassed, Idles, IsRefused, IsWithin, MovesBy, lent_for, owes_fault}
 use Rattle.relay_engine.specs.declared.drain_end.DrainEnd.{DrainEnd}
 use Rattle.relay_engine.specs.declared.draining.Owed.{Owed}
 use Rattle.relay_engine.specs.declared.pipe_drainer.DrainStep.{DrainStep}
@@ -69,8 +69,8 @@ abbrev pub BehindStep : DrainStep → DrainerState → Reader → List ℕ → D
 BehindStep (Done end) d r gain d' text = IsDone d' end text
 BehindStep (Idle examined) d r gain d' text = (to : IsDraining d' text) × Idles NotReaders d.draining (seen_by r) gain examined d'.draining (seen_by to.reader) × OwesNothing d'
 BehindStep (Moved frames) d r gain d' text = (to : IsDraining d' text) × MovesBy NotReaders d.draining.owed d.draining (seen_by r) frames d'.draining (seen_by to.reader) × OwesNothing d'
-BehindStep (Busy word) d r gain d' text = (to : IsDraining d' text) × ((before : Seat) × Refuses (try.Busy word) before to.reader.seat)
-BehindStep (Worn entries) d r gain d' text = (to : IsDraining d' text) × ((before : Seat) × Refuses (try.Worn entries) before to.reader.seat)
+BehindStep (Busy word) d r gain d' text = (to : IsDraining d' text) × IsRefused RefusesReader exchanges_of (try.Busy word) r to.reader
+BehindStep (Worn entries) d r gain d' text = (to : IsDraining d' text) × IsRefused RefusesReader exchanges_of (try.Worn entries) r to.reader
 
 -- an end for a call of the sink that failed is owed
 abbrev pub owes_end : Option DrainEnd → Option Owed → Bool

@@ -31,6 +31,9 @@ RefusesReader fault old new = Refuses fault old.seat new.seat
 abbrev pub lent_len : Reader → Option ℕ
 lent_len r = option_map length r.lent
 
+abbrev pub exchanges_of : Reader → ℕ
+exchanges_of r = r.seat.exchanges
+
 -- A reader sees nothing of the writer's own.
 abbrev pub nothing_aside : Reader → Option Aside
 nothing_aside r = None
@@ -40,6 +43,10 @@ nothing_aside r = None
 -- The reader goes on. There is no other pipe that its calls are made on.
 abbrev pub IsAttended : Unit {0} → Local → Type 0
 IsAttended pipe p = IsNone p.pipe.control.gone
+
+-- There is no turn to take.
+abbrev pub no_exchanges : Local → ℕ
+no_exchanges p = 0
 
 abbrev pub lent_local : Local → Option ℕ
 lent_local p = p.pipe.control.lent

@@ -1,6 +1,6 @@
 //! What a drainer asks of the reading end of a pipe. It knows no more of it, and so not which pipe it runs on.
 
-ghost use Rattle.std.specs.Prelude.{◌≡◌, ◌≢◌, ℕ, List, ◌∷◌, length, Some, None, Option, IsSome, IfOk, IfErr};
+ghost use Rattle.std.specs.Prelude.{◌≡◌, ◌≢◌, ◌≤◌, ℕ, List, ◌∷◌, length, Some, None, Option, IsSome, IfOk, IfErr};
 ghost use Rattle.pipe_core.specs.History.{Call, Read, Advance};
 ghost use Rattle.pipe_core.specs.Reads.{reply_to_read};
 ghost use Rattle.pipe_core.specs.Legal.{seat_of};
@@ -34,6 +34,9 @@ pub trait DrainPipe {
     /// The length of what is lent, where a lend stands.
     ghost lent: { Self → Option ℕ };
 
+    /// How many exchanges it has made with its pipe.
+    ghost exchanges: { Self → ℕ };
+
     /// What its calls leave as it is, of what no history tells.
     ghost aside: { Self → Option Aside };
 
@@ -47,6 +50,7 @@ pub trait DrainPipe {
         ensures heard { IfErr result (λ fault. (h : List Call) → at self.old h → HearsLater at others h self.new) }
         ensures refused { IfErr result (λ fault. refuses fault self.old self.new) }
         ensures kept { IfErr result (λ fault. lent self.new ≡ lent self.old) }
+        ensures exchanges { exchanges self.old ≤ exchanges self.new }
         ensures aside { aside self.new ≡ aside self.old };
 
     /// The bytes that the last read lent, in place.
@@ -65,6 +69,7 @@ pub trait DrainPipe {
         ensures heard { IfErr result (λ fault. (h : List Call) → at self.old h → HearsLater at others h self.new) }
         ensures refused { IfErr result (λ fault. refuses fault self.old self.new) }
         ensures kept { IfErr result (λ fault. lent self.new ≡ lent self.old) }
+        ensures exchanges { exchanges self.old ≤ exchanges self.new }
         ensures aside { aside self.new ≡ aside self.old };
 
     /// What others call isn't the reader's.

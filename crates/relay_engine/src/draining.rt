@@ -111,7 +111,7 @@ impl Draining {
         requires within { IsWithin self.old.owed }
         requires own { (h : List Call) × (text : List ℕ) × P.at end.old h × HasPassed self.old h text }
         ensures may { P.may_call pipe.now end.new }
-        ensures step { DrainsOnce P.at P.others P.refuses P.lent P.aside self.old end.old (K.state sink.old) result self.new end.new (K.state sink.new) }
+        ensures step { DrainsOnce P.at P.others P.refuses P.exchanges P.lent P.aside self.old end.old (K.state sink.old) result self.new end.new (K.state sink.new) }
     {
         match self.owed {
             Some(owed) => self.advance(owed, pipe, end),
@@ -130,7 +130,7 @@ impl Draining {
         requires no_lend { P.lent end.old ≡ None }
         requires own { (h : List Call) × (text : List ℕ) × P.at end.old h × IsDrained self.old.drained h text }
         ensures may { P.may_call pipe.now end.new }
-        ensures step { DrainsOnce P.at P.others P.refuses P.lent P.aside self.old end.old (K.state sink.old) result self.new end.new (K.state sink.new) }
+        ensures step { DrainsOnce P.at P.others P.refuses P.exchanges P.lent P.aside self.old end.old (K.state sink.old) result self.new end.new (K.state sink.new) }
     {
         match end.read(pipe) {
             Err(fault) => Err(fault),
@@ -198,6 +198,7 @@ impl Draining {
         ensures advanced { (h : List Call) (text : List ℕ) → P.at end.old h → Owes self.old.drained owed h text →
             AdvancesTo P.at P.others P.refuses self.old owed h text end.old result self.new end.new }
         ensures drained { self.new.drained ≡ self.old.drained }
+        ensures exchanges { P.exchanges end.old ≤ P.exchanges end.new }
         ensures aside { P.aside end.new ≡ P.aside end.old }
         ensures lends { IfMore result (P.lent end.new ≡ lent_for self.new.owed) }
         ensures within { IsWithin self.new.owed }

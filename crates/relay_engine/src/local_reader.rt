@@ -7,7 +7,7 @@ use pipe_shared::{LocalPipe, TryFault};
 impl DrainPipe for LocalPipe {
     type Pipe = ();
 
-    ghost use Rattle.relay_engine.specs.ReaderEnds.{IsAttended, aside_local, lent_local};
+    ghost use Rattle.relay_engine.specs.ReaderEnds.{IsAttended, aside_local, lent_local, no_exchanges};
     ghost use Rattle.relay_engine.specs.LocalEnds.{HoldsLocal, NoOthers, RefusesNone};
 
     ghost may_call = { IsAttended };
@@ -19,6 +19,8 @@ impl DrainPipe for LocalPipe {
     ghost refuses = { RefusesNone };
 
     ghost lent = { lent_local };
+
+    ghost exchanges = { no_exchanges };
 
     ghost aside = { aside_local };
 

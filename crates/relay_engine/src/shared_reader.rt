@@ -9,7 +9,7 @@ impl DrainPipe for ReaderEnd {
 
     ghost use Rattle.std.specs.Prelude.{◌≢◌};
     ghost use Rattle.pipe_core.specs.Legal.{seat_of};
-    ghost use Rattle.relay_engine.specs.ReaderEnds.{HasRead, IsReaderOf, RefusesReader, lent_len, nothing_aside};
+    ghost use Rattle.relay_engine.specs.ReaderEnds.{HasRead, IsReaderOf, RefusesReader, exchanges_of, lent_len, nothing_aside};
 
     ghost may_call = { IsReaderOf };
 
@@ -20,6 +20,8 @@ impl DrainPipe for ReaderEnd {
     ghost refuses = { RefusesReader };
 
     ghost lent = { lent_len };
+
+    ghost exchanges = { exchanges_of };
 
     ghost aside = { nothing_aside };
 
