@@ -1,4 +1,4 @@
-"""What `relay copy` writes and answers, from the pages on framings and commands, by other means than the program's own."""
+"""What `relay` writes and answers, from the pages on framings and commands, by other means than the program's own."""
 
 
 def spell(framing, payload):
@@ -49,3 +49,12 @@ def copy(source, sink, greatest, data):
             return out, 2, f"bad frame at {place}: byte {frame}\n".encode()
         out += frame
     return out, status, line.encode()
+
+
+def generated(framing, seed, count):
+    """The input of so many frames that `relay drill` makes from a number."""
+    frames = []
+    for number in range(count):
+        length = (seed + 13 * number) % 96
+        frames.append(spell(framing, bytes(32 + (seed + number + index) % 95 for index in range(length))))
+    return b"".join(frames)

@@ -148,7 +148,7 @@ def random_cases(count):
 
 def wrong_words():
     cases = [
-        ([], 0), (["Copy", "len4", "line"], 0), (["drill"], 0), (["--help", "x"], 0), (["--verbose"], 0), (["copy"], 1), (["copy", "len4"], 2), (["pump"], 1), (["pump", "len4"], 2),
+        ([], 0), (["Copy", "len4", "line"], 0), (["drill"], 1), (["drill", "4294967296", "1", "line", "len4"], 1), (["batch"], 0), (["--help", "x"], 0), (["--verbose"], 0), (["copy"], 1), (["copy", "len4"], 2), (["pump"], 1), (["pump", "len4"], 2),
         (["copy", "len4", "lines"], 2), ([*COPY, "x"], 3), ([*COPY, "max=01"], 3), ([*COPY, "max=16777217"], 3),
         ([*COPY, "max=1", "max=1"], 4), ([*COPY, "seg=63"], 3), ([*COPY, "resume=70000"], 3), ([*COPY, "resume=9", "pause=8"], 3),
     ]
@@ -159,11 +159,27 @@ def wrong_words():
 
 def help_and_version():
     output, status, line = run(["--help"], [])
-    check("--help", (b"relay copy" in output and b"relay pump" in output, status, line), (True, 0, b""))
+    check("--help", (b"relay copy" in output and b"relay pump" in output and b"relay drill" in output, status, line), (True, 0, b""))
     output, status, line = run(["--version"], [])
     check("--version", (output.startswith(b"relay "), status, line), (True, 0, b""))
     with open("/dev/full", "wb") as full:
         check("--help on a full device", end(start(["--help"], stdout=full))[0], 5)
+
+
+def drills():
+    cases = [
+        ("2 1 line len4", b"frames=1 in=3 out=6\n", 0, b""), ("0 0 line len4", b"frames=0 in=0 out=0\n", 0, b""),
+        ("95 2 line len4", b"frames=2 in=109 out=115\n", 0, b""),
+        *[("7 100000 line len4", b"frames=100000 in=4849904 out=5149904\n", 0, b"")] * 3,
+        ("95 2 line len4 max=94", b"", 2, b"bad frame at 0: length 95\n"),
+    ]
+    for words, output, status, line in cases:
+        check(f"drill {words}", run(["drill", *words.split()], []), (output, status, line))
+    lines = model.generated("line", 7, 100000)
+    output, status, line = run(["copy", "line", "len4"], [lines])
+    check("copy of a generated input", (len(lines), len(output), status, line), (4849904, 5149904, 0, b""))
+    with open("/dev/full", "wb") as full:
+        check("drill on a full device", end(start(["drill", *"2 1 line len4".split()], stdout=full))[0], 5)
 
 
 def devices(command):
@@ -243,6 +259,7 @@ named_cases()
 random_cases(20)
 wrong_words()
 help_and_version()
+drills()
 for each in COMMANDS:
     devices(each)
     reader_gone(each)

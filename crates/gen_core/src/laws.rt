@@ -1,10 +1,13 @@
 //! What holds of every generated input. These functions do nothing: what they ensure is the law.
 
-ghost use Rattle.std.specs.Prelude.{◌≡◌, ◌*◌, ◌≤◌, ℕ, length, IsNone};
+ghost use Rattle.std.specs.Prelude.{◌≡◌, ◌≢◌, true, ◌*◌, ◌≤◌, ℕ, length, IsNone};
 ghost use Rattle.std.specs.List.{AllByRecursion};
 ghost use Rattle.frame_model.specs.declared.framing.Framing.{Framing};
 ghost use Rattle.frame_model.specs.Spelling.{obstacle, text};
-ghost use Rattle.gen_core.specs.Generator.{payloads};
+ghost use Rattle.frame_model.specs.declared.job.Job.{Job};
+ghost use Rattle.frame_model.specs.Cut.{Rest};
+ghost use Rattle.frame_model.specs.Translation.{translation};
+ghost use Rattle.gen_core.specs.Generator.{input, payloads};
 
 /// Each payload has a frame in each framing, and at most 95 bytes.
 pub fn generated_is_spellable()
@@ -16,4 +19,9 @@ pub fn generated_is_spellable()
 pub fn generated_is_small()
     ensures counted { (seed number count : ℕ) → length (payloads seed number count) ≡ count }
     ensures small { (framing : Framing) (seed number count : ℕ) → length (text framing (payloads seed number count)) ≤ 99 * count }
+{}
+
+/// A generated input never ends within a frame, whatever the greatest payload is that a job takes.
+pub fn generated_has_no_rest()
+    ensures { (job : Job) (seed count place : ℕ) → (translation job (input seed count job.input) true).verdict ≢ Rest place }
 {}

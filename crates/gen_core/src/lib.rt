@@ -10,5 +10,5 @@ mod source;
 mod tests;
 
 pub use cases::generator_cases;
-pub use laws::{generated_is_small, generated_is_spellable};
+pub use laws::{generated_has_no_rest, generated_is_small, generated_is_spellable};
 pub use source::{GenSource, gen_len};

@@ -7,9 +7,14 @@ relay translates framed byte streams.
 
 usage: relay copy IN OUT [KEY=BYTES ..]
        relay pump IN OUT [KEY=BYTES ..]
+       relay drill SEED COUNT IN OUT [KEY=BYTES ..]
 
 Reads frames from standard input, and writes their payloads to standard output as frames of another kind: `copy` on one
-thread, and `pump` on two, of which one reads while the other writes.
+thread, and `pump` on two, of which one reads while the other writes. `drill` makes COUNT frames from the number SEED, relays
+them into memory on two threads, and prints how many frames and bytes went in and out.
+
+SEED    0 to 4294967295
+COUNT   0 to 1000000
 
 IN and OUT
   len4    the payload's length in 4 bytes, most significant first, and then the payload

@@ -4,4 +4,6 @@
 #[cfg(test)]
 mod case;
 #[cfg(test)]
+mod drills;
+#[cfg(test)]
 mod relays;

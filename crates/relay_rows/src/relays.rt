@@ -12,7 +12,7 @@ const LEN4_LINE: &[&str] = &["len4", "line"];
 
 const TWO_FRAMES: &[u8] = &[0, 0, 0, 2, b'h', b'i', 0, 0, 0, 1, b'a'];
 
-/// Whether both commands do what the cases say.
+/// Whether `copy` and `pump` do what the cases say.
 fn hold<R: Wait + Threads + Sync>(
     rt: &R,
     alloc: Global,
@@ -261,7 +261,7 @@ fn told<R: Wait + Threads + Sync>(
 #[test]
 fn other_words_are_told(rt: HostRuntime) -> Result<(), Fail> {
     let alloc = rt.alloc();
-    let cases: [(&[&str], &[u8]); 13] = [
+    let cases: [(&[&str], &[u8]); 16] = [
         (&[], b"usage: word 0\n"),
         (&["copy"], b"usage: word 1\n"),
         (&["copy", "len4"], b"usage: word 2\n"),
@@ -281,7 +281,19 @@ fn other_words_are_told(rt: HostRuntime) -> Result<(), Fail> {
             &["pump", "line", "len4", "max=1", "max=1"],
             b"usage: word 4\n",
         ),
-        (&["drill", "len4", "line"], b"usage: word 0\n"),
+        (&["drill", "len4", "line"], b"usage: word 1\n"),
+        (
+            &["drill", "4294967296", "1", "line", "len4"],
+            b"usage: word 1\n",
+        ),
+        (
+            &["drill", "1", "1000001", "line", "len4"],
+            b"usage: word 2\n",
+        ),
+        (
+            &["drill", "1", "1", "line", "len4", "x"],
+            b"usage: word 5\n",
+        ),
         (&["batch"], b"usage: word 0\n"),
         (&["serve"], b"usage: word 0\n"),
     ];

@@ -1,12 +1,13 @@
 -- Which commands run on one thread, and what a relay does.
-use Rattle.std.specs.Prelude.{ℕ, ◌≡◌, ◌⊎◌, Bool, true, false, not, ◌||◌, List, [], ◌∷◌, codes}
+use Rattle.std.specs.Prelude.{ℕ, ⊤, ◌≡◌, ◌⊎◌, Bool, true, false, not, ◌||◌, List, [], ◌∷◌, codes}
 use Rattle.std.specs.Str.{bytes_eq}
 use Rattle.edge_core.specs.Device.{SourceState, SinkState}
 use Rattle.frame_model.specs.declared.job.Job.{Job}
 use Rattle.relay_model.specs.Lines.{IsWritten, memory_line}
 use Rattle.relay_model.specs.Run.{IsRelayed}
+use Rattle.relay_top.specs.Drill.{Drills}
 use Rattle.relay_words.specs.declared.command.Command.{Command}
-use Rattle.relay_words.specs.declared.command.Command.TheVariants.{Copy, Pump}
+use Rattle.relay_words.specs.declared.command.Command.TheVariants.{Copy, Pump, Drill}
 
 -- A first word that asks for more than one thread.
 abbrev pub is_threaded : List ℕ → Bool
@@ -21,9 +22,31 @@ is_local (command ∷ words) = not (is_threaded command)
 abbrev pub runs_alone : Command → Bool
 runs_alone (Copy job) = true
 runs_alone (Pump job) = false
+runs_alone (Drill seed count job) = false
 
 -- There was no memory, and nothing was read or written but the line that says so; or a run passed.
 abbrev pub Relays : Job → ℕ → SourceState → SourceState → SinkState → SinkState → SinkState → SinkState → Type 0
 Relays job status source_before source_after sink_before sink_after faults_before faults_after =
     ((status ≡ 6) × (source_after ≡ source_before) × (sink_after ≡ sink_before) × IsWritten memory_line faults_before faults_after)
     ⊎ IsRelayed job status source_before source_after sink_before sink_after faults_before faults_after
+
+-- This holds of the job, where the command relays the source.
+abbrev pub IfRelay : Command → (Job → Type 0) → Type 0
+IfRelay (Copy job) P = P job
+IfRelay (Pump job) P = P job
+IfRelay (Drill seed count job) P = ⊤
+
+-- This holds of its numbers and its job, where the command is a drill.
+abbrev pub IfDrill : Command → (ℕ → ℕ → Job → Type 0) → Type 0
+IfDrill (Copy job) P = ⊤
+IfDrill (Pump job) P = ⊤
+IfDrill (Drill seed count job) P = P seed count job
+
+-- What a command does: it relays the source, or it leaves the source as it is and drills.
+abbrev pub Runs : Command → ℕ → SourceState → SourceState → SinkState → SinkState → SinkState → SinkState → Type 0
+Runs (Copy job) status source_before source_after sink_before sink_after faults_before faults_after =
+    Relays job status source_before source_after sink_before sink_after faults_before faults_after
+Runs (Pump job) status source_before source_after sink_before sink_after faults_before faults_after =
+    Relays job status source_before source_after sink_before sink_after faults_before faults_after
+Runs (Drill seed count job) status source_before source_after sink_before sink_after faults_before faults_after =
+    (source_after ≡ source_before) × Drills seed count job status sink_before sink_after faults_before faults_after

@@ -1,7 +1,9 @@
 //! The relay's commands, from their words to their status.
 #![tactic(auto)]
 
+mod drill;
 mod local;
+mod pumping;
 mod telling;
 mod threaded;
 

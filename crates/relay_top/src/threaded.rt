@@ -1,27 +1,29 @@
 //! All commands, with those on more than one thread.
 
-ghost use Rattle.std.specs.Prelude.{◌≡◌, ◌≢◌, ◌↔◌, ◌⊎◌, ◌<◌, ◌^◌, false, length, IsErr, IfErr, IfOk, OnErr};
+ghost use Rattle.std.specs.Prelude.{◌≡◌, ◌≢◌, ◌↔◌, ◌⊎◌, ◌<◌, ◌≤◌, ◌^◌, false, length, IsErr, IfErr, IfOk};
 ghost use Rattle.frame_model.specs.Job.{IsInRange};
 ghost use Rattle.relay_model.specs.Lines.{IsWritten, memory_line, usage_line};
-ghost use Rattle.relay_model.specs.Run.{HasCause, IsComplete, IsRelayed, IsReported, RelaysAll, TranslatesAll};
-ghost use Rattle.relay_words.specs.Words.{command_of, job_of, texts};
-ghost use Rattle.relay_top.specs.Commands.{Relays, runs_alone};
+ghost use Rattle.relay_model.specs.Run.{HasCause, IsComplete, IsRelayed, RelaysAll, TranslatesAll};
+ghost use Rattle.relay_words.specs.Words.{command_of, frames_made, job_of, texts};
+ghost use Rattle.relay_top.specs.Commands.{IfDrill, IfRelay, Relays, Runs, runs_alone};
+ghost use Rattle.relay_top.specs.Drill.{Drills, HasDrillCause, HasGained, SumsUp};
 
+use crate::drill::drill;
 use crate::local::{is_local, relay_local};
+use crate::pumping::pump_and_settle;
 use crate::telling::{OUT_OF_MEMORY, USAGE, report_on};
 use edge_core::{Sink, Source};
 use frame_grammar::Job;
-use frame_model::Report;
 use relay_engine::{Told, status_of};
 use relay_model::{causes_of_statuses, complete_where_lawful, translates_all, whole_on_status_0};
-use relay_threads::{pump, settle, settled_pump_is_reported};
 use relay_words::{Command, read_words};
-use std::alloc::{AllocError, Global};
+use std::alloc::Global;
 use std::sync::Wait;
 use std::thread::Threads;
 
 /// Runs the command that the words ask for, which relays `source` to `sink`, and answers its status. Where `is_local` is true
-/// of the words, it is `relay_local`; else it may wait.
+/// of the words, it is `relay_local`; else it may wait. `drill` leaves `source` as it is: it relays an input that it makes into
+/// memory, for which it takes 100 bytes a frame before, and writes how much that was to `sink` as one line.
 /// Where the status isn't 0, a line on `faults` says why; a failure of `faults` changes nothing.
 ///
 /// | Status | Meaning |
@@ -34,6 +36,10 @@ use std::thread::Threads;
 /// | 5 | A write or a flush failed. |
 /// | 6 | There is no memory. Nothing is read or written. |
 /// | 7 | The source has more than 2^40 bytes. The whole frames of the first 2^40 are written. |
+///
+/// Of `drill`, 0 is that its line is written, 2 that a payload is longer than the job takes, with nothing written, 5 that a write
+/// or the flush of its line failed, and 1 is as here. 6 is want of memory, with nothing of `source` read and nothing written to
+/// `sink`. It answers no other.
 pub fn relay_main<R: Wait + Threads + Sync, S: Source + Send, K: Sink + Send, E: Sink>(
     rt: &R,
     alloc: Global,
@@ -51,21 +57,40 @@ pub fn relay_main<R: Wait + Threads + Sync, S: Source + Send, K: Sink + Send, E:
     ensures source_untouched { (result ≡ 1) ⊎ (result ≡ 6) → S.state source.new ≡ S.state source.old }
     ensures sink_untouched { (result ≡ 1) ⊎ (result ≡ 6) → K.state sink.new ≡ K.state sink.old }
 
-    // Else a run took what the source lost, wrote its translation to the sink, and the status and the line say how it ended.
-    ensures relayed { result ≢ 1 → result ≢ 6 → IfOk (command_of (texts words.now)) (λ command.
-        IsRelayed (job_of command) result (S.state source.old) (S.state source.new) (K.state sink.old) (K.state sink.new) (E.state faults.old) (E.state faults.new)) }
+    // Else, but for a drill, a run took what the source lost, wrote its translation to the sink, and the status and the line say how
+    // it ended.
+    ensures relayed { result ≢ 1 → result ≢ 6 → IfOk (command_of (texts words.now)) (λ command. IfRelay command (λ job.
+        IsRelayed job result (S.state source.old) (S.state source.new) (K.state sink.old) (K.state sink.new) (E.state faults.old) (E.state faults.new))) }
 
     // So, where no device failed, the sink gained the translation of all that the source held,
-    ensures translated { result ≢ 1 → result ≢ 6 → IfOk (command_of (texts words.now)) (λ command.
-        TranslatesAll (job_of command) (S.state source.old) (S.state source.new) (K.state sink.old) (K.state sink.new)) }
+    ensures translated { result ≢ 1 → result ≢ 6 → IfOk (command_of (texts words.now)) (λ command. IfRelay command (λ job.
+        TranslatesAll job (S.state source.old) (S.state source.new) (K.state sink.old) (K.state sink.new))) }
     // and where all of that is lawful the status is 0;
-    ensures complete { result ≢ 1 → result ≢ 6 → IfOk (command_of (texts words.now)) (λ command.
-        IsComplete (job_of command) result (S.state source.old) (S.state source.new) (K.state sink.old) (K.state sink.new)) }
+    ensures complete { result ≢ 1 → result ≢ 6 → IfOk (command_of (texts words.now)) (λ command. IfRelay command (λ job.
+        IsComplete job result (S.state source.old) (S.state source.new) (K.state sink.old) (K.state sink.new))) }
     // with status 0 all of it was lawful,
-    ensures whole { result ≡ 0 → IfOk (command_of (texts words.now)) (λ command.
-        RelaysAll (job_of command) (S.state source.old) (S.state source.new) (K.state sink.old) (K.state sink.new)) }
+    ensures whole { result ≡ 0 → IfOk (command_of (texts words.now)) (λ command. IfRelay command (λ job.
+        RelaysAll job (S.state source.old) (S.state source.new) (K.state sink.old) (K.state sink.new))) }
     // and each status has its cause.
-    ensures caused { result ≢ 1 → result ≢ 6 → HasCause result (S.state source.old) (S.state source.new) (K.state sink.old) (K.state sink.new) }
+    ensures caused { result ≢ 1 → result ≢ 6 → IfOk (command_of (texts words.now)) (λ command. IfRelay command (λ job.
+        HasCause result (S.state source.old) (S.state source.new) (K.state sink.old) (K.state sink.new))) }
+
+    // A drill leaves the source as it is. Where the translation of the generated input is lawful it writes the summary of that, and
+    // else it tells the bad frame.
+    ensures drill_reads_nothing { IfOk (command_of (texts words.now)) (λ command. IfDrill command (λ seed count job.
+        S.state source.new ≡ S.state source.old)) }
+    ensures drilled { IfOk (command_of (texts words.now)) (λ command. IfDrill command (λ seed count job.
+        Drills seed count job result (K.state sink.old) (K.state sink.new) (E.state faults.old) (E.state faults.new))) }
+
+    // So each of its statuses has its cause,
+    ensures drill_caused { IfOk (command_of (texts words.now)) (λ command. IfDrill command (λ seed count job.
+        HasDrillCause seed count job result (K.state sink.old) (K.state sink.new))) }
+    // the sink gains the summary with 0, a front of it with 5, and else nothing,
+    ensures drill_gained { IfOk (command_of (texts words.now)) (λ command. IfDrill command (λ seed count job.
+        HasGained seed count job result (K.state sink.old) (K.state sink.new))) }
+    // and where the sink doesn't fail and the generated input is lawful the summary is written, or there is no memory.
+    ensures drill_complete { IfOk (command_of (texts words.now)) (λ command. IfDrill command (λ seed count job.
+        SumsUp seed count job result (K.state sink.old) (K.state sink.new))) }
 {
     if is_local(words) {
         return relay_local(alloc, words, source, sink, faults);
@@ -92,12 +117,15 @@ fn run_threaded<R: Wait + Threads + Sync, S: Source + Send, K: Sink + Send, E: S
     faults: &mut E,
 ) -> u8
     requires range { IsInRange (job_of command) }
+    requires limit { (job_of command).limit ≡ 2 ^ 40 }
+    requires few { frames_made command ≤ 1000000 }
     requires threaded { runs_alone command ≡ false }
-    ensures { Relays (job_of command) result (S.state source.old) (S.state source.new) (K.state sink.old) (K.state sink.new) (E.state faults.old) (E.state faults.new) }
+    ensures { Runs command result (S.state source.old) (S.state source.new) (K.state sink.old) (K.state sink.new) (E.state faults.old) (E.state faults.new) }
 {
     match command {
         Command::Copy { .. } => unreachable!(),
         Command::Pump { job } => relay_on_two(rt, alloc, &job, source, sink, faults),
+        Command::Drill { seed, count, job } => drill(rt, alloc, seed, count, &job, sink, faults),
     }
 }
 
@@ -119,22 +147,4 @@ fn relay_on_two<R: Wait + Threads + Sync, S: Source + Send, K: Sink + Send, E: S
     };
     report_on(faults, Told::Relay { report });
     status_of(report.outcome)
-}
-
-/// Relays as the job says, on two threads, and closes the pipe.
-fn pump_and_settle<R: Wait + Threads + Sync, S: Source + Send, K: Sink + Send>(
-    rt: &R,
-    alloc: Global,
-    source: &mut S,
-    sink: &mut K,
-    job: &Job,
-) -> Result<Report, AllocError>
-    requires { IsInRange job.now }
-    ensures reported { IfOk result (λ report. IsReported job.now report (S.state source.old) (S.state source.new) (K.state sink.old) (K.state sink.new)) }
-    ensures source_untouched { OnErr result (S.state source.new ≡ S.state source.old) }
-    ensures sink_untouched { OnErr result (K.state sink.new ≡ K.state sink.old) }
-{
-    settled_pump_is_reported();
-    let done = pump(rt, alloc, source, sink, job)?;
-    Ok(settle(done))
 }

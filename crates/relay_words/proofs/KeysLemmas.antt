@@ -59,11 +59,11 @@ pub not_named : (name word : List ℕ) (least greatest : ℕ) → FindsTextPrefi
 not_named name word least greatest h = rw (sym (starts_text false name word h)) refl
 
 -- The words from the loop's place on, where the next one adds its key.
-pub reads_on : (command input output word : List ℕ) (all done rest behind : List (List ℕ)) → misplaced (command ∷ input ∷ output ∷ []) all ≡ misplaced (command ∷ input ∷ output ∷ done) rest → rest ≡ word ∷ behind → adds (keys_among done) word ≡ true → misplaced (command ∷ input ∷ output ∷ []) all ≡ misplaced (command ∷ input ∷ output ∷ (done ++ word ∷ [])) behind
-reads_on command input output word all done rest behind e r adds_one = e ∙ ap (λ (x : List (List ℕ)). misplaced (command ∷ input ∷ output ∷ done) x) r ∙ rw adds_one refl
+pub reads_on : (input output word : List ℕ) (all done rest behind : List (List ℕ)) → misplaced (input ∷ output ∷ []) all ≡ misplaced (input ∷ output ∷ done) rest → rest ≡ word ∷ behind → adds (keys_among done) word ≡ true → misplaced (input ∷ output ∷ []) all ≡ misplaced (input ∷ output ∷ (done ++ word ∷ [])) behind
+reads_on input output word all done rest behind e r adds_one = e ∙ ap (λ (x : List (List ℕ)). misplaced (input ∷ output ∷ done) x) r ∙ rw adds_one refl
 
-pub stops : (command input output word : List ℕ) (all done rest behind : List (List ℕ)) (at : ℕ) → misplaced (command ∷ input ∷ output ∷ []) all ≡ misplaced (command ∷ input ∷ output ∷ done) rest → rest ≡ word ∷ behind → adds (keys_among done) word ≡ false → at ≡ 3 + length done → misplaced (command ∷ input ∷ output ∷ []) all ≡ Some at
-stops command input output word all done rest behind at e r adds_none a = e ∙ ap (λ (x : List (List ℕ)). misplaced (command ∷ input ∷ output ∷ done) x) r ∙ rw adds_none (ap (λ (i : ℕ). Some i) (omega (arith, a)))
+pub stops : (input output word : List ℕ) (all done rest behind : List (List ℕ)) (at : ℕ) → misplaced (input ∷ output ∷ []) all ≡ misplaced (input ∷ output ∷ done) rest → rest ≡ word ∷ behind → adds (keys_among done) word ≡ false → at ≡ 3 + length done → misplaced (input ∷ output ∷ []) all ≡ Some at
+stops input output word all done rest behind at e r adds_none a = e ∙ ap (λ (x : List (List ℕ)). misplaced (input ∷ output ∷ done) x) r ∙ rw adds_none (ap (λ (i : ℕ). Some i) (omega (arith, a)))
 
 pub parts_on : (word : List ℕ) (all done rest behind : List (List ℕ)) → all ≡ done ++ rest → rest ≡ word ∷ behind → all ≡ (done ++ word ∷ []) ++ behind
 parts_on word all done rest behind e r = e ∙ ap (λ (x : List (List ℕ)). done ++ x) r ∙ sym (append_assoc done (word ∷ []) behind)

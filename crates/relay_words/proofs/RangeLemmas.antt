@@ -1,5 +1,5 @@
 -- The numbers of a job that words ask for are in their ranges.
-use Rattle.std.proofs.Common.{◌≡◌, ◌≤◌, ◌⊎◌, inl, inr, ℕ, ◌+◌, ◌==◌, Bool, true, false, not, nat_le, nat_lt, nat_eq, ◌&&◌, List, [], ◌∷◌, length, drop, Option, Some, None, Result, Ok, Err, refl, sym, ap, arith, if◌then◌else◌, option_and_then, min, unwrap_or, lit≤, ◌^◌, codes, subst}
+use Rattle.std.proofs.Common.{◌≡◌, ◌≤◌, ◌⊎◌, inl, inr, ℕ, ◌+◌, ◌==◌, Bool, true, false, not, nat_le, nat_lt, nat_eq, ◌&&◌, List, [], ◌∷◌, ◌++◌, ◌<◌, length, drop, Option, Some, None, Result, Ok, Err, refl, sym, ap, arith, if◌then◌else◌, option_and_then, min, unwrap_or, lit≤, ◌^◌, codes, subst}
 use Rattle.std.proofs.lemmas.Bool.{and_parts, leb-true}
 use Rattle.std.specs.List.{starts_with}
 use Rattle.std.specs.Option.{option_or}
@@ -7,14 +7,14 @@ use Rattle.frame_model.specs.Job.{IsInRange}
 use Rattle.frame_model.specs.declared.framing.Framing.{Framing}
 use Rattle.frame_model.specs.declared.framing.Framing.TheVariants.{Line}
 use Rattle.frame_model.specs.declared.job.Job.{Job}
-use Rattle.relay_words.specs.declared.command.Command.{Command}
-use Rattle.relay_words.specs.declared.command.Kind.{Kind}
-use Rattle.relay_words.specs.declared.command.Kind.TheVariants as kinds
 use Rattle.relay_words.specs.declared.keys.Given.{Given}
 use Rattle.relay_words.specs.declared.keys.Keys.{Keys}
 use Rattle.relay_words.specs.Keys.{above, given_among, given_by, keys_among, max_of, number_of_key, number_or, pause_in, pause_of, resume_of, seg_of, usual_resume}
 use Rattle.relay_words.specs.Numbers.{number_of}
-use Rattle.relay_words.specs.Words.{command_in, command_of, command_with, framing_of, job_of, job_with, kind_of, misplaced}
+use Rattle.relay_words.specs.Words.{can_follow, framing_of, job_behind, job_in, misplaced, texts}
+use Rattle.std.specs.Prelude.{IfErr, IfOk, String}
+use Rattle.std.specs.declared.alloc.Global.{Global}
+use Rattle.std.proofs.lemmas.List.{length-append}
 
 abbrev Within : ℕ → ℕ → ℕ → Type 0
 Within least greatest n = (least ≤ n) × (n ≤ greatest)
@@ -119,27 +119,106 @@ job_range input output words None job q e =
     let same : job_made input output (keys_among words) ≡ job = ok_is _ _ e in
     subst (λ (j : Job). IsInRange j) same (made_range input output words q)
 
-its_job : (kind : Kind) (job : Job) → job_of (command_with kind job) ≡ job
-its_job kinds.Copy job = refl
-its_job kinds.Pump job = refl
+words_range : (words : List (List ℕ)) (job : Job) → job_behind words ≡ Ok job → IsInRange job
+words_range [] job e = absurd cc
+words_range (i ∷ []) job e = absurd cc
+words_range (i ∷ o ∷ keys) job e =
+    job_range (unwrap_or (framing_of i) Line) (unwrap_or (framing_of o) Line) keys (above (pause_in (keys_among keys)) (keys_among keys).resume) job refl e
 
-relay_range : (kind : Kind) (r : Result Job ℕ) (command : Command) → ((job : Job) → r ≡ Ok job → IsInRange job) → ◌≡◌ {A = Result Command ℕ} (elim r [ Ok job ↦ Ok (command_with kind job) | Err at ↦ Err at ]) (Ok command) → IsInRange (job_of command)
-relay_range kind (Ok job) command h e = subst (λ (c : Command). IsInRange (job_of c)) (ok_is _ _ e) (subst (λ (j : Job). IsInRange j) (sym (its_job kind job)) (h job refl))
-relay_range kind (Err at) command h e = absurd cc
-
-words_range : (words : List (List ℕ)) (command : Command) → command_in words ≡ Ok command → IsInRange (job_of command)
-words_range [] command e = absurd cc
-words_range (c ∷ []) command e = absurd cc
-words_range (c ∷ i ∷ []) command e = absurd cc
-words_range (c ∷ i ∷ o ∷ keys) command e =
-    let input = unwrap_or (framing_of i) Line in
-    let output = unwrap_or (framing_of o) Line in
-    relay_range (unwrap_or (kind_of c) kinds.Copy) (job_with input output (keys_among keys)) command
-    (λ job. job_range input output keys (above (pause_in (keys_among keys)) (keys_among keys).resume) job refl) e
-
-pub in_range : (words : List (List ℕ)) (command : Command) → command_of words ≡ Ok command → IsInRange (job_of command)
-in_range words command e = by (misplaced [] words) e
+in_range : (words : List (List ℕ)) (job : Job) → job_in words ≡ Ok job → IsInRange job
+in_range words job e = by (misplaced [] words) e
   where
-    by : (m : Option ℕ) → ◌≡◌ {A = Result Command ℕ} (elim m [ None ↦ command_in words | Some at ↦ Err at ]) (Ok command) → IsInRange (job_of command)
-    by None e = words_range words command e
+    by : (m : Option ℕ) → ◌≡◌ {A = Result Job ℕ} (elim m [ None ↦ job_behind words | Some at ↦ Err at ]) (Ok job) → IsInRange job
+    by None e = words_range words job e
     by (Some at) e = absurd cc
+
+words_limit : (words : List (List ℕ)) (job : Job) → job_behind words ≡ Ok job → job.limit ≡ 2 ^ 40
+words_limit [] job e = absurd cc
+words_limit (i ∷ []) job e = absurd cc
+words_limit (i ∷ o ∷ keys) job e = by (above (pause_in (keys_among keys)) (keys_among keys).resume) e
+  where
+    by : (m : Option ℕ) → ◌≡◌ {A = Result Job ℕ} (elim m [ Some at ↦ Err at | None ↦ Ok (job_made (unwrap_or (framing_of i) Line) (unwrap_or (framing_of o) Line) (keys_among keys)) ]) (Ok job) → job.limit ≡ 2 ^ 40
+    by None e = sym (ap (λ (j : Job). j.limit) (ok_is _ job e))
+    by (Some at) e = absurd cc
+
+limit_is : (words : List (List ℕ)) (job : Job) → job_in words ≡ Ok job → job.limit ≡ 2 ^ 40
+limit_is words job e = by (misplaced [] words) e
+  where
+    by : (m : Option ℕ) → ◌≡◌ {A = Result Job ℕ} (elim m [ None ↦ job_behind words | Some at ↦ Err at ]) (Ok job) → job.limit ≡ 2 ^ 40
+    by None e = words_limit words job e
+    by (Some at) e = absurd cc
+
+-- ---- the index of a word
+
+some_is : {T : Type 0} (x y : T) → Some x ≡ Some y → x ≡ y
+some_is x y e = cc
+
+misplaced_within : (before words : List (List ℕ)) (at : ℕ) → misplaced before words ≡ Some at → at ≤ length before + length words
+misplaced_within before [] at e = absurd cc
+misplaced_within before (word ∷ words) at e = by (can_follow before word) (misplaced_within (before ++ word ∷ []) words at) e
+  where
+    by : (b : Bool) → (misplaced (before ++ word ∷ []) words ≡ Some at → at ≤ length (before ++ word ∷ []) + length words)
+        → (if b then misplaced (before ++ word ∷ []) words else Some (1 + length before)) ≡ Some at → at ≤ length before + length (word ∷ words)
+    by true ih e =
+        let size : length (before ++ word ∷ []) ≡ length before + 1 = length-append before (word ∷ []) in
+        omega (arith, ih e, size)
+    by false ih e = omega (arith, some_is (1 + length before) at e)
+
+among_word : (number : List ℕ → Option ℕ) (at : ℕ) (words : List (List ℕ)) (given : Given) → given_among number at words ≡ Some given → given.word < at + length words
+among_word number at [] given e = absurd cc
+among_word number at (word ∷ words) given e = by (given_among number (1 + at) words) (number word) (among_word number (1 + at) words) e
+  where
+    by : (o : Option Given) (n : Option ℕ) → ((given : Given) → o ≡ Some given → given.word < 1 + at + length words) → option_or o (given_by at n None) ≡ Some given → given.word < at + length (word ∷ words)
+    by (Some other) n ih e = omega (arith, ih given e)
+    by None None ih e = absurd cc
+    by None (Some n) ih e = omega (arith, ap (λ (g : Given). g.word) (some_is _ given e))
+
+above_word : (pause : ℕ) (o : Option Given) (at bound : ℕ) → ((given : Given) → o ≡ Some given → given.word < bound) → above pause o ≡ Some at → at < bound
+above_word pause None at bound h e = absurd cc
+above_word pause (Some resume) at bound h e = by (not (pause == 0) && nat_lt pause resume.number) e
+  where
+    by : (b : Bool) → (if b then Some resume.word else None) ≡ Some at → at < bound
+    by true e = omega (arith, h resume refl, some_is resume.word at e)
+    by false e = absurd cc
+
+err_is : {T E : Type 0} (x y : E) → ◌≡◌ {A = Result T E} (Err x) (Err y) → x ≡ y
+err_is x y e = cc
+
+with_word : (o : Option ℕ) (job : Job) (at bound : ℕ) → ((n : ℕ) → o ≡ Some n → n < bound) → ◌≡◌ {A = Result Job ℕ} (elim o [ Some n ↦ Err n | None ↦ Ok job ]) (Err at) → at < bound
+with_word None job at bound h e = absurd cc
+with_word (Some n) job at bound h e = omega (arith, h n refl, err_is {T = Job} n at e)
+
+behind_word : (words : List (List ℕ)) (at : ℕ) → job_behind words ≡ Err at → at ≤ 3 + length words
+behind_word [] at e = omega (arith, err_is {T = Job} 1 at e)
+behind_word (i ∷ []) at e = omega (arith, err_is {T = Job} 2 at e)
+behind_word (i ∷ o ∷ keys) at e =
+    let made = job_made (unwrap_or (framing_of i) Line) (unwrap_or (framing_of o) Line) (keys_among keys) in
+    let below : at < 3 + length keys =
+    with_word (above (pause_in (keys_among keys)) (keys_among keys).resume) made at (3 + length keys)
+    (λ n q. above_word (pause_in (keys_among keys)) (keys_among keys).resume n (3 + length keys) (among_word resume_of 3 keys) q) e in
+    omega (arith, below)
+
+word_within : (words : List (List ℕ)) (at : ℕ) → job_in words ≡ Err at → at ≤ 3 + length words
+word_within words at e = by (misplaced [] words) refl e
+  where
+    by : (m : Option ℕ) → misplaced [] words ≡ m → ◌≡◌ {A = Result Job ℕ} (elim m [ None ↦ job_behind words | Some at ↦ Err at ]) (Err at) → at ≤ 3 + length words
+    by None q e = behind_word words at e
+    by (Some n) q e = omega (arith, misplaced_within [] words n q, err_is {T = Job} n at e)
+
+texts_len : (words : List (String Global)) → length (texts words) ≡ length words
+texts_len [] = refl
+texts_len (word ∷ words) = omega (arith, texts_len words)
+
+-- ---- what was read
+
+pub is_in_range : (words : List (List ℕ)) (r : Result Job ℕ) → r ≡ job_in words → IfOk r (λ job. IsInRange job)
+is_in_range words (Ok job) e = in_range words job (sym e)
+is_in_range words (Err at) e = tt
+
+pub has_limit : (words : List (List ℕ)) (r : Result Job ℕ) → r ≡ job_in words → IfOk r (λ job. job.limit ≡ 2 ^ 40)
+has_limit words (Ok job) e = limit_is words job (sym e)
+has_limit words (Err at) e = tt
+
+pub is_within : (words : List (String Global)) (r : Result Job ℕ) → r ≡ job_in (texts words) → IfErr r (λ word. word ≤ 3 + length words)
+is_within words (Ok job) e = tt
+is_within words (Err at) e = omega (arith, texts_len words, word_within (texts words) at (sym e))

@@ -4,7 +4,7 @@ use Rattle.frame_model.specs.declared.framing.Framing.{Framing}
 use Rattle.frame_model.specs.declared.framing.Framing.TheVariants.{Line}
 use Rattle.frame_model.specs.declared.job.Job.{Job}
 use Rattle.relay_words.specs.declared.command.Command.{Command}
-use Rattle.relay_words.specs.declared.command.Command.TheVariants.{Copy, Pump}
+use Rattle.relay_words.specs.declared.command.Command.TheVariants.{Copy, Pump, Drill}
 
 -- A relay of lines, with these numbers.
 abbrev pub lines : Framing → ℕ → ℕ → ℕ → ℕ → Job
@@ -15,3 +15,6 @@ line_job output max seg pause resume = Ok (Copy (lines output max seg pause resu
 
 abbrev pub pumped_job : Framing → ℕ → ℕ → ℕ → ℕ → Result Command ℕ
 pumped_job output max seg pause resume = Ok (Pump (lines output max seg pause resume))
+
+abbrev pub drilled_job : ℕ → ℕ → Framing → ℕ → ℕ → ℕ → ℕ → Result Command ℕ
+drilled_job seed count output max seg pause resume = Ok (Drill seed count (lines output max seg pause resume))

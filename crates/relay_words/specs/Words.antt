@@ -1,16 +1,17 @@
 -- Which words are a command.
-use Rattle.std.specs.Prelude.{ℕ, ◌^◌, Bool, List, [], ◌∷◌, ◌++◌, length, Option, Some, None, Result, Ok, Err, codes, is_some, map, unwrap_or, string_bytes, String, if◌then◌else◌}
+use Rattle.std.specs.Prelude.{ℕ, ◌^◌, ◌+◌, Bool, List, [], ◌∷◌, ◌++◌, length, Option, Some, None, Result, Ok, Err, codes, is_some, map, unwrap_or, string_bytes, String, if◌then◌else◌}
 use Rattle.std.specs.declared.alloc.Global.{Global}
 use Rattle.std.specs.Str.{bytes_eq}
 use Rattle.frame_model.specs.declared.framing.Framing.{Framing}
 use Rattle.frame_model.specs.declared.framing.Framing.TheVariants.{Len4, Len2, Line}
 use Rattle.frame_model.specs.declared.job.Job.{Job}
 use Rattle.relay_words.specs.declared.command.Command.{Command}
-use Rattle.relay_words.specs.declared.command.Command.TheVariants.{Copy, Pump}
+use Rattle.relay_words.specs.declared.command.Command.TheVariants.{Copy, Pump, Drill}
 use Rattle.relay_words.specs.declared.command.Kind.{Kind}
 use Rattle.relay_words.specs.declared.command.Kind.TheVariants as kinds
 use Rattle.relay_words.specs.declared.keys.Keys.{Keys}
 use Rattle.relay_words.specs.Keys.{above, adds, keys_among, number_or, pause_in, usual_resume}
+use Rattle.relay_words.specs.Numbers.{number_within}
 
 abbrev pub texts : List (String Global) → List (List ℕ)
 texts words = map string_bytes words
@@ -20,11 +21,8 @@ abbrev pub kind_of : List ℕ → Option Kind
 kind_of word =
     if bytes_eq word (codes "copy") then Some kinds.Copy
     else if bytes_eq word (codes "pump") then Some kinds.Pump
+    else if bytes_eq word (codes "drill") then Some kinds.Drill
     else None
-
-abbrev pub command_with : Kind → Job → Command
-command_with kinds.Copy job = Copy job
-command_with kinds.Pump job = Pump job
 
 abbrev pub framing_of : List ℕ → Option Framing
 framing_of word =
@@ -33,17 +31,16 @@ framing_of word =
     else if bytes_eq word (codes "line") then Some Line
     else None
 
--- A word can stand behind these: the command, the two framings, and keys, each once.
+-- A word of a relay can stand behind these, which follow its command: the two framings, and keys, each once.
 abbrev pub can_follow : List (List ℕ) → List ℕ → Bool
-can_follow [] word = is_some (kind_of word)
-can_follow (command ∷ []) word = is_some (framing_of word)
-can_follow (command ∷ input ∷ []) word = is_some (framing_of word)
-can_follow (command ∷ input ∷ output ∷ keys) word = adds (keys_among keys) word
+can_follow [] word = is_some (framing_of word)
+can_follow (input ∷ []) word = is_some (framing_of word)
+can_follow (input ∷ output ∷ keys) word = adds (keys_among keys) word
 
--- The index of the first of these words that can't follow those before it.
+-- The index of the first of these words that can't follow those before it, where the command has the index 0.
 abbrev pub misplaced : List (List ℕ) → List (List ℕ) → Option ℕ
 misplaced before [] = None
-misplaced before (word ∷ words) = if can_follow before word then misplaced (before ++ word ∷ []) words else Some (length before)
+misplaced before (word ∷ words) = if can_follow before word then misplaced (before ++ word ∷ []) words else Some (1 + length before)
 
 -- The job of two framings and keys, or the index of a resume threshold above the pause threshold.
 abbrev pub job_with : Framing → Framing → Keys → Result Job ℕ
@@ -60,20 +57,51 @@ job_with input output keys = elim (above (pause_in keys) keys.resume) [
   })
 ]
 
--- The command of words that can all be read where they stand.
-abbrev pub command_in : List (List ℕ) → Result Command ℕ
-command_in (command ∷ input ∷ output ∷ keys) = elim (job_with (unwrap_or (framing_of input) Line) (unwrap_or (framing_of output) Line) (keys_among keys)) [
-  | Ok job ↦ Ok (command_with (unwrap_or (kind_of command) kinds.Copy) job)
-  | Err at ↦ Err at
-]
-command_in words = Err (length words)
+-- The job of words that can all be read where they stand behind the command.
+abbrev pub job_behind : List (List ℕ) → Result Job ℕ
+job_behind (input ∷ output ∷ keys) = job_with (unwrap_or (framing_of input) Line) (unwrap_or (framing_of output) Line) (keys_among keys)
+job_behind words = Err (1 + length words)
+
+-- The job of the words behind a command, or the index of the first that can't be read, or the number of words where one is
+-- missing, or the index of a resume threshold above the pause threshold. The command has the index 0.
+abbrev pub job_in : List (List ℕ) → Result Job ℕ
+job_in words = elim (misplaced [] words) [ None ↦ job_behind words | Some at ↦ Err at ]
+
+-- A drill of this many frames, whose job is behind two numbers.
+abbrev pub drill_with : ℕ → ℕ → Result Job ℕ → Result Command ℕ
+drill_with seed count (Ok job) = Ok (Drill seed count job)
+drill_with seed count (Err at) = Err (2 + at)
+
+-- A drill from this seed: the number of its frames, and then what stands behind the word of a relay.
+abbrev pub drill_from : ℕ → List (List ℕ) → Result Command ℕ
+drill_from seed [] = Err 2
+drill_from seed (word ∷ words) = elim (number_within 0 1000000 word) [ None ↦ Err 2 | Some count ↦ drill_with seed count (job_in words) ]
+
+-- The words behind `drill`.
+abbrev pub drill_in : List (List ℕ) → Result Command ℕ
+drill_in [] = Err 1
+drill_in (word ∷ words) = elim (number_within 0 4294967295 word) [ None ↦ Err 1 | Some seed ↦ drill_from seed words ]
+
+-- The words behind the word of a command.
+abbrev pub command_with : Kind → List (List ℕ) → Result Command ℕ
+command_with kinds.Copy words = elim (job_in words) [ Ok job ↦ Ok (Copy job) | Err at ↦ Err at ]
+command_with kinds.Pump words = elim (job_in words) [ Ok job ↦ Ok (Pump job) | Err at ↦ Err at ]
+command_with kinds.Drill words = drill_in words
 
 -- The command, or the index of the first word that can't be read, or the number of words where one is missing, or the index of a
 -- resume threshold above the pause threshold.
 abbrev pub command_of : List (List ℕ) → Result Command ℕ
-command_of words = elim (misplaced [] words) [ None ↦ command_in words | Some at ↦ Err at ]
+command_of [] = Err 0
+command_of (command ∷ words) = elim (kind_of command) [ None ↦ Err 0 | Some kind ↦ command_with kind words ]
 
--- The job of a command that relays.
+-- The job of a command.
 abbrev pub job_of : Command → Job
 job_of (Copy job) = job
 job_of (Pump job) = job
+job_of (Drill seed count job) = job
+
+-- How many frames a command makes.
+abbrev pub frames_made : Command → ℕ
+frames_made (Copy job) = 0
+frames_made (Pump job) = 0
+frames_made (Drill seed count job) = count

@@ -1,7 +1,7 @@
 //! Worked cases of the definitions, computed by the check. These functions do nothing.
 
 ghost use Rattle.std.specs.Prelude.{◌≡◌, ◌∷◌, [], codes, Some, None, Err};
-ghost use Rattle.relay_words.specs.Cases.{line_job, pumped_job};
+ghost use Rattle.relay_words.specs.Cases.{drilled_job, line_job, pumped_job};
 ghost use Rattle.relay_words.specs.Numbers.{number_of};
 ghost use Rattle.relay_words.specs.Words.{command_of};
 
@@ -45,5 +45,15 @@ pub fn word_cases()
     ensures pump { command_of (codes "pump" ∷ codes "line" ∷ codes "len2" ∷ codes "seg=64" ∷ []) ≡ pumped_job Framing.Len2 65536 64 65536 32768 }
     ensures pump_alone { command_of (codes "pump" ∷ []) ≡ Err 1 }
     ensures pumps { command_of (codes "pumps" ∷ codes "line" ∷ codes "len2" ∷ []) ≡ Err 0 }
-    ensures drill { command_of (codes "drill" ∷ codes "line" ∷ codes "len2" ∷ []) ≡ Err 0 }
+    ensures batch { command_of (codes "batch" ∷ codes "2" ∷ []) ≡ Err 0 }
+    ensures drill { command_of (codes "drill" ∷ codes "2" ∷ codes "1" ∷ codes "line" ∷ codes "len4" ∷ codes "seg=64" ∷ []) ≡ drilled_job 2 1 Framing.Len4 65536 64 65536 32768 }
+    ensures greatest_drill { command_of (codes "drill" ∷ codes "4294967295" ∷ codes "1000000" ∷ codes "line" ∷ codes "len2" ∷ []) ≡ drilled_job 4294967295 1000000 Framing.Len2 65536 4096 65536 32768 }
+    ensures seed_too_great { command_of (codes "drill" ∷ codes "4294967296" ∷ codes "1" ∷ codes "line" ∷ codes "len4" ∷ []) ≡ Err 1 }
+    ensures count_too_great { command_of (codes "drill" ∷ codes "1" ∷ codes "1000001" ∷ codes "line" ∷ codes "len4" ∷ []) ≡ Err 2 }
+    ensures seed_with_a_nought { command_of (codes "drill" ∷ codes "01" ∷ codes "1" ∷ codes "line" ∷ codes "len4" ∷ []) ≡ Err 1 }
+    ensures drill_alone { command_of (codes "drill" ∷ []) ≡ Err 1 }
+    ensures drill_without_count { command_of (codes "drill" ∷ codes "0" ∷ []) ≡ Err 2 }
+    ensures drill_without_framings { command_of (codes "drill" ∷ codes "0" ∷ codes "0" ∷ []) ≡ Err 3 }
+    ensures drill_of_one_framing { command_of (codes "drill" ∷ codes "0" ∷ codes "0" ∷ codes "line" ∷ []) ≡ Err 4 }
+    ensures drill_with_a_key_twice { command_of (codes "drill" ∷ codes "0" ∷ codes "0" ∷ codes "line" ∷ codes "line" ∷ codes "max=1" ∷ codes "max=1" ∷ []) ≡ Err 6 }
 {}

@@ -10,13 +10,17 @@ pub enum Command {
     Copy { job: Job },
     /// The same on two threads.
     Pump { job: Job },
+    /// Relays an input of `count` frames that is made from `seed` into memory, on two threads, and writes to the sink how many
+    /// frames and bytes that were.
+    Drill { seed: u32, count: u32, job: Job },
 }
 
-/// A command without its job, as its word names it.
+/// A command without its numbers and its job, as its word names it.
 #[derive(Clone, Copy)]
 pub enum Kind {
     Copy,
     Pump,
+    Drill,
 }
 
 /// Words that are no command. `word` is the index, from 0, of the first one that can't be read where it stands, or the

@@ -1,7 +1,7 @@
 //! The keys behind the framings.
 
-ghost use Rattle.std.specs.Prelude.{◌≡◌, ◌&&◌, nat_le, option_and_then, ◌+◌, ◌∷◌, [], ℕ, List, Some, None, Ok, Err, if◌then◌else◌, length};
-ghost use Rattle.relay_words.specs.Numbers.{number_of};
+ghost use Rattle.std.specs.Prelude.{◌≡◌, ◌≤◌, ◌&&◌, nat_le, IfSome, ◌+◌, ◌∷◌, [], ℕ, List, Some, None, Ok, Err, if◌then◌else◌, length};
+ghost use Rattle.relay_words.specs.Numbers.{number_of, number_within as number_within_of};
 ghost use Rattle.relay_words.specs.Keys.{adds, given_by as given_by_of, is_new as is_new_of, keys_among, keys_with, number_of_key as number_of_key_of};
 ghost use Rattle.relay_words.specs.Words.{misplaced, texts};
 
@@ -24,10 +24,10 @@ pub struct Keys {
     pub resume: Option<Given>,
 }
 
-/// The keys of a command of `count` words, or the index of the first that can't be read where it stands.
+/// The keys of a relay of `count` words, or the index of the first that can't be read where it stands.
 pub fn keys_in(keys: &[String], count: usize) -> Result<Keys, usize>
     requires { count ≡ 3 + length keys.now }
-    ensures { (command input output : List ℕ) → result ≡ elim (misplaced (command ∷ input ∷ output ∷ []) (texts keys.now)) [ None ↦ Ok (keys_among (texts keys.now)) | Some at ↦ Err at ] }
+    ensures { (input output : List ℕ) → result ≡ elim (misplaced (input ∷ output ∷ []) (texts keys.now)) [ None ↦ Ok (keys_among (texts keys.now)) | Some at ↦ Err at ] }
 {
     let mut given = Keys {
         max: None,
@@ -98,8 +98,10 @@ fn number_of_key(name: &str, least: u64, greatest: u64, word: &str) -> Option<u6
     }
 }
 
-fn number_within(least: u64, greatest: u64, word: &str) -> Option<u64>
-    ensures { result ≡ option_and_then (λ n. if nat_le least n && nat_le n greatest then Some n else None) (number_of word.now) }
+/// The number of a word, where it is in a range.
+pub(crate) fn number_within(least: u64, greatest: u64, word: &str) -> Option<u64>
+    ensures value { result ≡ number_within_of least greatest word.now }
+    ensures within { IfSome result (λ n. (least ≤ n) × (n ≤ greatest)) }
 {
     let number = read_number(word)?;
     if is_within(least, greatest, number) {

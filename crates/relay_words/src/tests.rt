@@ -114,17 +114,32 @@ fn words_of_a_command(rt: HostRuntime) -> Result<(), Fail> {
     let pump = read(alloc, &["pump", "line", "len4", "seg=64"])?;
     let job = Job { seg: 64, ..usual };
     assert_eq!(rt; pump, Ok(Command::Pump { job }));
+    let drill = read(
+        alloc,
+        &["drill", "4294967295", "0", "line", "len4", "seg=64"],
+    )?;
+    let (seed, count) = (4_294_967_295, 0);
+    assert_eq!(rt; drill, Ok(Command::Drill { seed, count, job }));
     Ok(())
 }
 
 #[test]
 fn words_of_no_command(rt: HostRuntime) -> Result<(), Fail> {
     let alloc = rt.alloc();
-    let cases: [(&[&str], usize); 35] = [
+    let cases: [(&[&str], usize); 41] = [
         (&[], 0),
         (&["Copy", "line", "len4"], 0),
         (&["copy "], 0),
-        (&["drill", "line", "len4"], 0),
+        (&["drill", "line", "len4"], 1),
+        (&["drill", "4294967296", "1", "line", "len4"], 1),
+        (&["drill", "1", "1000001", "line", "len4"], 2),
+        (&["drill", "1", "00", "line", "len4"], 2),
+        (&["drill", "1", "0"], 3),
+        (&["drill", "1", "0", "line", "len4", "x"], 5),
+        (
+            &["drill", "1", "0", "line", "len4", "pause=8", "resume=9"],
+            6,
+        ),
         (&["batch"], 0),
         (&["serve"], 0),
         (&["pump"], 1),

@@ -1,12 +1,12 @@
 //! Reading the words of a command.
 
-ghost use Rattle.std.specs.Prelude.{◌≡◌, IfErr, IfOk, Ok, Err};
+ghost use Rattle.std.specs.Prelude.{◌≡◌, ◌≤◌, ◌+◌, ◌^◌, length, IfErr, IfOk, Ok, Err};
 ghost use Rattle.frame_model.specs.Job.{IsInRange};
 ghost use Rattle.relay_words.specs.Keys.{above, number_or as number_or_of, usual_resume as usual_resume_of};
-ghost use Rattle.relay_words.specs.Words.{command_of, command_with, framing_of, job_of, job_with, kind_of, texts};
+ghost use Rattle.relay_words.specs.Words.{command_of, drill_from as drill_from_of, drill_in as drill_in_of, frames_made, framing_of, job_in as job_in_of, job_of, job_with, kind_of, texts};
 
 use crate::command::{Command, Kind, Usage};
-use crate::keys::{Given, Keys, keys_in};
+use crate::keys::{Given, Keys, keys_in, number_within};
 use frame_grammar::{Framing, Job};
 
 /// The greatest payload where no key says it, in bytes.
@@ -21,11 +21,19 @@ const USUAL_PAUSE: u64 = 65_536;
 /// The resume threshold where no key says it and the pause threshold isn't below it, in bytes.
 const USUAL_RESUME: u64 = 32_768;
 
+/// The greatest seed of a drill.
+const GREATEST_SEED: u64 = 4_294_967_295;
+
+/// The greatest number of frames of a drill.
+const GREATEST_COUNT: u64 = 1_000_000;
+
 /// Reads the words of a command, without the program's name. It takes no memory.
 pub fn read_words(words: &[String]) -> Result<Command, Usage>
     ensures command { IfOk result (λ command. command_of (texts words.now) ≡ Ok command) }
     ensures usage { IfErr result (λ usage. command_of (texts words.now) ≡ Err usage.word) }
     ensures in_range { IfOk result (λ command. IsInRange (job_of command)) }
+    ensures limit { IfOk result (λ command. (job_of command).limit ≡ 2 ^ 40) }
+    ensures few { IfOk result (λ command. frames_made command ≤ 1000000) }
 {
     match command_in(words) {
         Ok(command) => Ok(command),
@@ -35,7 +43,10 @@ pub fn read_words(words: &[String]) -> Result<Command, Usage>
 
 /// The command, or the index of the word that can't be read.
 fn command_in(words: &[String]) -> Result<Command, usize>
-    ensures { result ≡ command_of (texts words.now) }
+    ensures value { result ≡ command_of (texts words.now) }
+    ensures in_range { IfOk result (λ command. IsInRange (job_of command)) }
+    ensures limit { IfOk result (λ command. (job_of command).limit ≡ 2 ^ 40) }
+    ensures few { IfOk result (λ command. frames_made command ≤ 1000000) }
 {
     let Some((command, rest)) = words.split_first() else {
         return Err(0);
@@ -43,7 +54,77 @@ fn command_in(words: &[String]) -> Result<Command, usize>
     let Some(kind) = kind(command.as_str()) else {
         return Err(0);
     };
-    let Some((input, rest)) = rest.split_first() else {
+    match kind {
+        Kind::Copy => Ok(Command::Copy { job: job_in(rest)? }),
+        Kind::Pump => Ok(Command::Pump { job: job_in(rest)? }),
+        Kind::Drill => drill_in(rest),
+    }
+}
+
+fn kind(word: &str) -> Option<Kind>
+    ensures { result ≡ kind_of word.now }
+{
+    match word {
+        "copy" => Some(Kind::Copy),
+        "pump" => Some(Kind::Pump),
+        "drill" => Some(Kind::Drill),
+        _ => None,
+    }
+}
+
+/// The drill of the words behind its command, or the index of the word that can't be read.
+fn drill_in(words: &[String]) -> Result<Command, usize>
+    ensures value { result ≡ drill_in_of (texts words.now) }
+    ensures in_range { IfOk result (λ command. IsInRange (job_of command)) }
+    ensures limit { IfOk result (λ command. (job_of command).limit ≡ 2 ^ 40) }
+    ensures few { IfOk result (λ command. frames_made command ≤ 1000000) }
+{
+    let Some((seed, rest)) = words.split_first() else {
+        return Err(1);
+    };
+    let Some(seed) = number_within(0, GREATEST_SEED, seed.as_str()) else {
+        return Err(1);
+    };
+    drill_from(seed as u32, rest)
+}
+
+/// The drill from a seed and the words behind it, or the index of the word that can't be read.
+fn drill_from(seed: u32, words: &[String]) -> Result<Command, usize>
+    ensures value { result ≡ drill_from_of seed (texts words.now) }
+    ensures in_range { IfOk result (λ command. IsInRange (job_of command)) }
+    ensures limit { IfOk result (λ command. (job_of command).limit ≡ 2 ^ 40) }
+    ensures few { IfOk result (λ command. frames_made command ≤ 1000000) }
+{
+    let Some((count, rest)) = words.split_first() else {
+        return Err(2);
+    };
+    let Some(count) = number_within(0, GREATEST_COUNT, count.as_str()) else {
+        return Err(2);
+    };
+    match job_in(rest) {
+        Ok(job) => Ok(Command::Drill {
+            seed,
+            count: count as u32,
+            job,
+        }),
+        Err(word) => Err(word + 2),
+    }
+}
+
+/// The job of the words behind a command, or the index of the word that can't be read, where the command has the index 0.
+fn job_in(words: &[String]) -> Result<Job, usize>
+    ensures value { result ≡ job_in_of (texts words.now) }
+    ensures in_range { IfOk result (λ job. IsInRange job) }
+    ensures limit { IfOk result (λ job. job.limit ≡ 2 ^ 40) }
+    ensures word { IfErr result (λ word. word ≤ 3 + length words.now) }
+{
+    read_job(words)
+}
+
+fn read_job(words: &[String]) -> Result<Job, usize>
+    ensures { result ≡ job_in_of (texts words.now) }
+{
+    let Some((input, rest)) = words.split_first() else {
         return Err(1);
     };
     let Some(input) = framing(input.as_str()) else {
@@ -55,27 +136,8 @@ fn command_in(words: &[String]) -> Result<Command, usize>
     let Some(output) = framing(output.as_str()) else {
         return Err(2);
     };
-    let keys = keys_in(keys, words.len())?;
-    Ok(command_of_kind(kind, job(input, output, keys)?))
-}
-
-fn kind(word: &str) -> Option<Kind>
-    ensures { result ≡ kind_of word.now }
-{
-    match word {
-        "copy" => Some(Kind::Copy),
-        "pump" => Some(Kind::Pump),
-        _ => None,
-    }
-}
-
-fn command_of_kind(kind: Kind, job: Job) -> Command
-    ensures { result ≡ command_with kind job }
-{
-    match kind {
-        Kind::Copy => Command::Copy { job },
-        Kind::Pump => Command::Pump { job },
-    }
+    let keys = keys_in(keys, words.len() + 1)?;
+    job(input, output, keys)
 }
 
 fn framing(word: &str) -> Option<Framing>

@@ -10,7 +10,7 @@ invariant-loop-word l = record {
   parts : texts l.keys ≡ done ++ texts l.rest;
   given : l.given ≡ keys_among done;
   count : l.count ≡ 3 + length done + length l.rest;
-  place : (command input output : List ℕ) → misplaced (command ∷ input ∷ output ∷ []) (texts l.keys) ≡ misplaced (command ∷ input ∷ output ∷ done) (texts l.rest);
+  place : (input output : List ℕ) → misplaced (input ∷ output ∷ []) (texts l.keys) ≡ misplaced (input ∷ output ∷ done) (texts l.rest);
 }
 
 abbrev pub decreases-loop-word : goal.decreases-loop-word

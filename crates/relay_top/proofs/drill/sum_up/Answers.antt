@@ -1,0 +1,9 @@
+-- The summary was broken off.
+use Rattle.std.proofs.Common.{◌∙◌}
+use Rattle.relay_top.proofs.DrillLemmas.{broken_off}
+use Rattle.relay_top.proofs.drill.sum_up.Goals as goal
+
+pub returns : goal.returns
+returns g c = λ seed job ends.
+    broken_off seed c.args.count c.args.report.now.taken c.args.report.now.written job _ _ c.in-Err.broken.written _ _ _ _
+    (c.as_bytes.ensures.value ∙ c.in-Ok.ensures) c.in-Err.ensures.front c.told_of.ensures c.report_on-in-Err.ensures ends
