@@ -25,6 +25,14 @@ impl Begun {
             write: AtomicBool::new(false),
         }
     }
+
+    /// Both have, so no call waits.
+    pub fn both() -> Begun {
+        Begun {
+            read: AtomicBool::new(true),
+            write: AtomicBool::new(true),
+        }
+    }
 }
 
 /// Tells that a call has begun, and waits until the other one has. Whether it did.

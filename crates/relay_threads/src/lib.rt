@@ -1,7 +1,10 @@
-//! A relay on two threads: one takes bytes from a source into a pipe, and the other writes the frames of what the pipe lends to
-//! a sink.
+//! Relays by threads. One relay on two threads, of which one takes bytes from a source into a pipe, and the other writes the
+//! frames of what the pipe lends to a sink; and many relays by a few threads, each relay on one of them.
 #![tactic(auto)]
 
+#[cfg(test)]
+mod batch_tests;
+mod batching;
 #[cfg(test)]
 mod held;
 mod laws;
@@ -9,5 +12,6 @@ mod pumping;
 #[cfg(test)]
 mod tests;
 
+pub use batching::{Finished, Task, batch};
 pub use laws::settled_pump_is_reported;
 pub use pumping::{Pumped, pump, settle};
