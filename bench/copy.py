@@ -11,6 +11,11 @@ wants `crates/relay/out/relay`, `rustc` and `cc`. Each line is a translation and
 
 wants the first of them alone, and measures `relay pump` beside `relay copy` on lines of 80 bytes: the least time of each in
 seconds, and their ratio.
+
+    python3 bench/copy.py drill [FRAMES]
+
+measures `relay drill`, which makes that many frames and relays them into memory, beside `relay copy` of the same bytes from a
+file to the null device: the frames a second of each.
 """
 
 import hashlib
@@ -21,6 +26,9 @@ import tempfile
 import time
 
 HERE = os.path.dirname(os.path.abspath(__file__))
+sys.path.insert(0, os.path.join(HERE, "..", "checks"))
+import model
+
 RELAY = os.path.join(HERE, "..", "crates", "relay", "out", "relay")
 ROUNDS = 5
 TRANSLATIONS = [("line", "len4"), ("len4", "line"), ("len4", "len4"), ("line", "line")]
@@ -95,7 +103,19 @@ def pump_beside_copy(size):
                 print(f"{' '.join(keys):26}{way:8}{copy:8.3f}{pump:8.3f}{pump / copy:13.2f}", flush=True)
 
 
+def drill_beside_copy(count):
+    with tempfile.TemporaryDirectory() as folder:
+        path = os.path.join(folder, "input")
+        with open(path, "wb") as file:
+            file.write(model.generated("line", 7, count))
+        drill, copy = least_times(file_to_null, [[RELAY, "drill", "7", str(count), "line", "len4"], [RELAY, "copy", "line", "len4"]], path)
+        print(f"drill {count / drill:.0f} frames a second, copy {count / copy:.0f}, drill / copy in time {drill / copy:.2f}")
+
+
 def main():
+    if sys.argv[1:2] == ["drill"]:
+        drill_beside_copy(int(sys.argv[2] if len(sys.argv) > 2 else "1000000"))
+        return
     if sys.argv[1:2] == ["pump"]:
         pump_beside_copy(int(sys.argv[2] if len(sys.argv) > 2 else "200") * 1_000_000)
         return

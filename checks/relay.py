@@ -148,7 +148,7 @@ def random_cases(count):
 
 def wrong_words():
     cases = [
-        ([], 0), (["Copy", "len4", "line"], 0), (["drill"], 1), (["drill", "4294967296", "1", "line", "len4"], 1), (["batch"], 0), (["--help", "x"], 0), (["--verbose"], 0), (["copy"], 1), (["copy", "len4"], 2), (["pump"], 1), (["pump", "len4"], 2),
+        ([], 0), (["Copy", "len4", "line"], 0), (["drill"], 1), (["drill", "4294967296", "1", "line", "len4"], 1), (["serve"], 0), (["batch"], 1), (["batch", "0", "line", "len4", "a"], 1), (["batch", "2", "line", "len4"], 4), (["batch", "2", "line", "len4", "a", "a"], 5), (["batch", "2", "line", "len4", "a.out"], 4), (["--help", "x"], 0), (["--verbose"], 0), (["copy"], 1), (["copy", "len4"], 2), (["pump"], 1), (["pump", "len4"], 2),
         (["copy", "len4", "lines"], 2), ([*COPY, "x"], 3), ([*COPY, "max=01"], 3), ([*COPY, "max=16777217"], 3),
         ([*COPY, "max=1", "max=1"], 4), ([*COPY, "seg=63"], 3), ([*COPY, "resume=70000"], 3), ([*COPY, "resume=9", "pause=8"], 3),
     ]
@@ -159,7 +159,7 @@ def wrong_words():
 
 def help_and_version():
     output, status, line = run(["--help"], [])
-    check("--help", (b"relay copy" in output and b"relay pump" in output and b"relay drill" in output, status, line), (True, 0, b""))
+    check("--help", (b"relay copy" in output and b"relay pump" in output and b"relay drill" in output and b"relay batch" in output, status, line), (True, 0, b""))
     output, status, line = run(["--version"], [])
     check("--version", (output.startswith(b"relay "), status, line), (True, 0, b""))
     with open("/dev/full", "wb") as full:
@@ -178,6 +178,7 @@ def drills():
     lines = model.generated("line", 7, 100000)
     output, status, line = run(["copy", "line", "len4"], [lines])
     check("copy of a generated input", (len(lines), len(output), status, line), (4849904, 5149904, 0, b""))
+    check("batch opens nothing yet", run(["batch", "2", "len4", "line", "a", "b"], []), (b"", 8, b"door fault at word 4\n"))
     with open("/dev/full", "wb") as full:
         check("drill on a full device", end(start(["drill", *"2 1 line len4".split()], stdout=full))[0], 5)
 

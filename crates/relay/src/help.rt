@@ -8,13 +8,18 @@ relay translates framed byte streams.
 usage: relay copy IN OUT [KEY=BYTES ..]
        relay pump IN OUT [KEY=BYTES ..]
        relay drill SEED COUNT IN OUT [KEY=BYTES ..]
+       relay batch WORKERS IN OUT [KEY=BYTES ..] NAME ..
 
 Reads frames from standard input, and writes their payloads to standard output as frames of another kind: `copy` on one
 thread, and `pump` on two, of which one reads while the other writes. `drill` makes COUNT frames from the number SEED, relays
-them into memory on two threads, and prints how many frames and bytes went in and out.
+them into memory on two threads, and prints how many frames and bytes went in and out. `batch` relays the input of each NAME to
+an output of its own, at most WORKERS of them at once, and prints a line for each: its name, its status and how many frames were
+written. This version opens no names yet: `batch` ends with status 8.
 
-SEED    0 to 4294967295
-COUNT   0 to 1000000
+SEED     0 to 4294967295
+COUNT    0 to 1000000
+WORKERS  1 to 16
+NAME     1 to 255 bytes that don't end in .out; at most 256 of them, all different
 
 IN and OUT
   len4    the payload's length in 4 bytes, most significant first, and then the payload
@@ -37,4 +42,5 @@ status, with a line on standard error where it isn't 0
   5  standard output can't be written
   6  there is no memory; nothing is read or written
   7  the input has more than 2^40 bytes; the whole frames of the first 2^40 are written
+  8  the input or the output of a name can't be opened; nothing is read or written
 ";

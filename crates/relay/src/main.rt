@@ -3,7 +3,7 @@
 
 mod help;
 
-use edge_core::{ReadEdge, Sink, Source, WriteEdge, write_all};
+use edge_core::{NoDoors, ReadEdge, Sink, Source, WriteEdge, write_all};
 use help::{HELP, VERSION};
 use relay_top::relay_main;
 use std::alloc::Global;
@@ -60,7 +60,7 @@ fn run<R: Wait + Threads + Sync, S: Source + Send, K: Sink + Send, E: Sink>(
     match only_word(words) {
         Some("--help") => print(output, HELP),
         Some("--version") => print(output, VERSION),
-        _ => relay_main(rt, alloc, words, input, output, faults),
+        _ => relay_main(rt, alloc, words, input, output, faults, &mut NoDoors::new()),
     }
 }
 

@@ -1,6 +1,6 @@
 //! A case of a command that relays, between devices in memory.
 
-use edge_core::{MemSink, MemSource};
+use edge_core::{MemSink, MemSource, NoDoors};
 use relay_top::relay_main;
 use std::alloc::{AllocError, Global};
 use std::sync::Wait;
@@ -82,6 +82,14 @@ pub fn holds_from<R: Wait + Threads + Sync>(
     if words.len() >= 1 << 32 {
         return Ok(false);
     }
-    let status = relay_main(rt, alloc, words.as_slice(), source, &mut sink, &mut faults);
+    let status = relay_main(
+        rt,
+        alloc,
+        words.as_slice(),
+        source,
+        &mut sink,
+        &mut faults,
+        &mut NoDoors::new(),
+    );
     Ok(status == case.status && sink.bytes() == case.output && faults.bytes() == case.line)
 }

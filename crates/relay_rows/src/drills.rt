@@ -1,7 +1,7 @@
 //! `drill`, whose summary goes to a sink in memory.
 
 use crate::case::strings;
-use edge_core::{MemSink, MemSource, Source};
+use edge_core::{MemSink, MemSource, NoDoors, Source};
 use relay_top::relay_main;
 use std::alloc::{AllocError, Global};
 use std::sync::Wait;
@@ -54,6 +54,7 @@ fn holds<R: Wait + Threads + Sync>(
         &mut source,
         &mut sink,
         &mut faults,
+        &mut NoDoors::new(),
     );
     let unread = source.read(&mut [0; 64]) == Ok(UNREAD.len());
     let told = faults.bytes() == case.line;

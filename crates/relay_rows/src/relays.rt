@@ -1,7 +1,7 @@
 //! `copy` and `pump`, between devices in memory. What they answer is the same.
 
 use crate::case::{Case, holds, holds_from, plain, source_of, strings};
-use edge_core::{MemSink, MemSource, Source};
+use edge_core::{MemSink, MemSource, NoDoors, Source};
 use relay_top::{is_local, relay_main};
 use std::alloc::{AllocError, Global};
 use std::sync::Wait;
@@ -253,6 +253,7 @@ fn told<R: Wait + Threads + Sync>(
         &mut source,
         &mut sink,
         &mut faults,
+        &mut NoDoors::new(),
     );
     let untouched = sink.bytes().is_empty() && source.read(&mut [0; 64]) == Ok(TWO_FRAMES.len());
     Ok(status == 1 && faults.bytes() == line && untouched)
@@ -261,7 +262,7 @@ fn told<R: Wait + Threads + Sync>(
 #[test]
 fn other_words_are_told(rt: HostRuntime) -> Result<(), Fail> {
     let alloc = rt.alloc();
-    let cases: [(&[&str], &[u8]); 16] = [
+    let cases: [(&[&str], &[u8]); 19] = [
         (&[], b"usage: word 0\n"),
         (&["copy"], b"usage: word 1\n"),
         (&["copy", "len4"], b"usage: word 2\n"),
@@ -294,7 +295,13 @@ fn other_words_are_told(rt: HostRuntime) -> Result<(), Fail> {
             &["drill", "1", "1", "line", "len4", "x"],
             b"usage: word 5\n",
         ),
-        (&["batch"], b"usage: word 0\n"),
+        (&["batch"], b"usage: word 1\n"),
+        (&["batch", "2", "line", "len4"], b"usage: word 4\n"),
+        (
+            &["batch", "2", "line", "len4", "a", "a"],
+            b"usage: word 5\n",
+        ),
+        (&["batch", "2", "line", "len4", "a.out"], b"usage: word 4\n"),
         (&["serve"], b"usage: word 0\n"),
     ];
     for (words, line) in &cases {

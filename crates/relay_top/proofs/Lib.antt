@@ -1,2 +1,6 @@
+mod BatchCauseLemmas
+mod BatchLemmas
 mod DrillLemmas
+mod NameLemmas
+mod OpeningLemmas
 mod RelayLemmas

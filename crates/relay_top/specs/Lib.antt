@@ -1,2 +1,4 @@
+pub mod Batch
 pub mod Commands
 pub mod Drill
+pub mod Opening

@@ -1,17 +1,15 @@
 //! A drill: a large lawful input that is made from a number, and relayed into memory.
 
-ghost use Rattle.std.specs.Prelude.{◌≡◌, ◌≤◌, ◌^◌, ℕ, IfErr, IfOk, OnOk, string_bytes};
-ghost use Rattle.edge_core.specs.Device.{Takes, TakesFront};
+ghost use Rattle.std.specs.Prelude.{◌≡◌, ◌≤◌, ◌^◌, ℕ, IfOk, string_bytes};
 ghost use Rattle.frame_model.specs.Job.{IsInRange};
 ghost use Rattle.frame_model.specs.declared.job.Job.{Job as JobState};
-ghost use Rattle.frame_model.specs.declared.ending.Outcome.TheVariants.{Clean, WriteFault};
-ghost use Rattle.relay_model.specs.Lines.{line_of};
-ghost use Rattle.relay_engine.specs.Tell.{told_line};
+ghost use Rattle.frame_model.specs.declared.ending.Outcome.TheVariants.{Clean};
 ghost use Rattle.relay_top.specs.Drill.{Drills, EndsAs, summary_line};
 
 use crate::pumping::pump_and_settle;
+use crate::summary::{CLEAN, WRITE_FAULT, told_of, write_summary};
 use crate::telling::{OUT_OF_MEMORY, report_on};
-use edge_core::{BrokenOff, MemSink, Sink, write_all};
+use edge_core::{MemSink, Sink};
 use frame_grammar::Job;
 use frame_model::{Outcome, Report, bad_stays_bad, open_until_the_end};
 use gen_core::{GenSource, generated_has_no_rest, generated_is_small};
@@ -22,12 +20,6 @@ use std::thread::Threads;
 
 /// How many bytes of memory there are for a frame. Each has at most 99.
 const ROOM: usize = 100;
-
-/// The status where the summary was written.
-const CLEAN: u8 = 0;
-
-/// The status where a write or the flush of the summary failed.
-const WRITE_FAULT: u8 = 5;
 
 /// Relays the input of `count` frames that is generated from `seed` into memory, on two threads, and writes the summary of it
 /// to the sink.
@@ -101,7 +93,7 @@ fn sum_up<K: Sink, E: Sink>(
         report_on(faults, Told::Memory);
         return OUT_OF_MEMORY;
     };
-    match write_line(sink, line.as_bytes()) {
+    match write_summary(sink, line.as_bytes()) {
         Ok(()) => CLEAN,
         Err(broken) => {
             report_on(faults, told_of(broken));
@@ -110,37 +102,9 @@ fn sum_up<K: Sink, E: Sink>(
     }
 }
 
-/// What is told of a summary that was broken off.
-fn told_of(broken: BrokenOff) -> Told
-    ensures { told_line result ≡ line_of WriteFault 0 broken.written }
-{
-    Told::Relay {
-        report: Report {
-            outcome: Outcome::WriteFault,
-            frames: 0,
-            taken: 0,
-            written: broken.written,
-        },
-    }
-}
-
 /// The summary.
 fn summary(alloc: Global, frames: u32, taken: u64, written: u64) -> Result<String, AllocError>
     ensures { IfOk result (λ line. string_bytes line ≡ summary_line frames taken written) }
 {
     format!(in alloc; "frames={frames} in={taken} out={written}\n")
-}
-
-/// Writes all of a line and flushes the sink, or tells how much of the line was written.
-fn write_line<K: Sink>(sink: &mut K, line: &[u8]) -> Result<(), BrokenOff>
-    ensures whole { OnOk result (Takes (K.state sink.old) line.now (K.state sink.new)) }
-    ensures front { IfErr result (λ broken. TakesFront (K.state sink.old) line.now broken.written (K.state sink.new)) }
-{
-    write_all(sink, line)?;
-    let Ok(()) = sink.flush() else {
-        return Err(BrokenOff {
-            written: line.len() as u64,
-        });
-    };
-    Ok(())
 }

@@ -102,7 +102,7 @@ fn run<S: Source, K: Sink, E: Sink>(
 {
     match command {
         Command::Copy { job } => copy(alloc, &job, source, sink, faults),
-        Command::Pump { .. } | Command::Drill { .. } => unreachable!(),
+        Command::Pump { .. } | Command::Drill { .. } | Command::Batch { .. } => unreachable!(),
     }
 }
 

@@ -12,6 +12,9 @@ pub(crate) const USAGE: u8 = 1;
 /// The status where there is no memory for a relay.
 pub(crate) const OUT_OF_MEMORY: u8 = 6;
 
+/// The status where an opening was refused.
+pub(crate) const DOOR_FAULT: u8 = 8;
+
 /// Writes the line, as far as no write fails: a failure of `faults` changes nothing.
 pub(crate) fn report_on<E: Sink>(faults: &mut E, told: Told)
     ensures { IsWritten (told_line told) (E.state faults.old) (E.state faults.new) }

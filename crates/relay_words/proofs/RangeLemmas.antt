@@ -22,14 +22,14 @@ Within least greatest n = (least ≤ n) × (n ≤ greatest)
 ok_is : {T E : Type 0} (x y : T) → ◌≡◌ {A = Result T E} (Ok x) (Ok y) → x ≡ y
 ok_is x y e = cc
 
-number_range : (least greatest : ℕ) (o : Option ℕ) (n : ℕ) → option_and_then (λ n. if nat_le least n && nat_le n greatest then Some n else None) o ≡ Some n → Within least greatest n
+pub number_range : (least greatest : ℕ) (o : Option ℕ) (n : ℕ) → option_and_then (λ n. if nat_le least n && nat_le n greatest then Some n else None) o ≡ Some n → Within least greatest n
 number_range least greatest None n e = absurd cc
 number_range least greatest (Some m) n e = by (nat_le least m && nat_le m greatest) refl e
   where
     by : (b : Bool) → (nat_le least m && nat_le m greatest) ≡ b → ◌≡◌ {A = Option ℕ} (if b then Some m else None) (Some n) → Within least greatest n
     by true q e =
         let same : m ≡ n = cc in
-        let both = and_parts _ _ q in
+        let both : (nat_le least m ≡ true) × (nat_le m greatest ≡ true) = and_parts _ _ q in
         (omega (arith, same, leb-true least m both.0), omega (arith, same, leb-true m greatest both.1))
     by false q e = absurd cc
 
@@ -119,7 +119,7 @@ job_range input output words None job q e =
     let same : job_made input output (keys_among words) ≡ job = ok_is _ _ e in
     subst (λ (j : Job). IsInRange j) same (made_range input output words q)
 
-words_range : (words : List (List ℕ)) (job : Job) → job_behind words ≡ Ok job → IsInRange job
+pub words_range : (words : List (List ℕ)) (job : Job) → job_behind words ≡ Ok job → IsInRange job
 words_range [] job e = absurd cc
 words_range (i ∷ []) job e = absurd cc
 words_range (i ∷ o ∷ keys) job e =
@@ -132,7 +132,7 @@ in_range words job e = by (misplaced [] words) e
     by None e = words_range words job e
     by (Some at) e = absurd cc
 
-words_limit : (words : List (List ℕ)) (job : Job) → job_behind words ≡ Ok job → job.limit ≡ 2 ^ 40
+pub words_limit : (words : List (List ℕ)) (job : Job) → job_behind words ≡ Ok job → job.limit ≡ 2 ^ 40
 words_limit [] job e = absurd cc
 words_limit (i ∷ []) job e = absurd cc
 words_limit (i ∷ o ∷ keys) job e = by (above (pause_in (keys_among keys)) (keys_among keys).resume) e
@@ -153,7 +153,7 @@ limit_is words job e = by (misplaced [] words) e
 some_is : {T : Type 0} (x y : T) → Some x ≡ Some y → x ≡ y
 some_is x y e = cc
 
-misplaced_within : (before words : List (List ℕ)) (at : ℕ) → misplaced before words ≡ Some at → at ≤ length before + length words
+pub misplaced_within : (before words : List (List ℕ)) (at : ℕ) → misplaced before words ≡ Some at → at ≤ length before + length words
 misplaced_within before [] at e = absurd cc
 misplaced_within before (word ∷ words) at e = by (can_follow before word) (misplaced_within (before ++ word ∷ []) words at) e
   where
@@ -164,7 +164,7 @@ misplaced_within before (word ∷ words) at e = by (can_follow before word) (mis
         omega (arith, ih e, size)
     by false ih e = omega (arith, some_is (1 + length before) at e)
 
-among_word : (number : List ℕ → Option ℕ) (at : ℕ) (words : List (List ℕ)) (given : Given) → given_among number at words ≡ Some given → given.word < at + length words
+pub among_word : (number : List ℕ → Option ℕ) (at : ℕ) (words : List (List ℕ)) (given : Given) → given_among number at words ≡ Some given → given.word < at + length words
 among_word number at [] given e = absurd cc
 among_word number at (word ∷ words) given e = by (given_among number (1 + at) words) (number word) (among_word number (1 + at) words) e
   where
@@ -173,7 +173,7 @@ among_word number at (word ∷ words) given e = by (given_among number (1 + at) 
     by None None ih e = absurd cc
     by None (Some n) ih e = omega (arith, ap (λ (g : Given). g.word) (some_is _ given e))
 
-above_word : (pause : ℕ) (o : Option Given) (at bound : ℕ) → ((given : Given) → o ≡ Some given → given.word < bound) → above pause o ≡ Some at → at < bound
+pub above_word : (pause : ℕ) (o : Option Given) (at bound : ℕ) → ((given : Given) → o ≡ Some given → given.word < bound) → above pause o ≡ Some at → at < bound
 above_word pause None at bound h e = absurd cc
 above_word pause (Some resume) at bound h e = by (not (pause == 0) && nat_lt pause resume.number) e
   where
@@ -181,10 +181,10 @@ above_word pause (Some resume) at bound h e = by (not (pause == 0) && nat_lt pau
     by true e = omega (arith, h resume refl, some_is resume.word at e)
     by false e = absurd cc
 
-err_is : {T E : Type 0} (x y : E) → ◌≡◌ {A = Result T E} (Err x) (Err y) → x ≡ y
+pub err_is : {T E : Type 0} (x y : E) → ◌≡◌ {A = Result T E} (Err x) (Err y) → x ≡ y
 err_is x y e = cc
 
-with_word : (o : Option ℕ) (job : Job) (at bound : ℕ) → ((n : ℕ) → o ≡ Some n → n < bound) → ◌≡◌ {A = Result Job ℕ} (elim o [ Some n ↦ Err n | None ↦ Ok job ]) (Err at) → at < bound
+pub with_word : (o : Option ℕ) (job : Job) (at bound : ℕ) → ((n : ℕ) → o ≡ Some n → n < bound) → ◌≡◌ {A = Result Job ℕ} (elim o [ Some n ↦ Err n | None ↦ Ok job ]) (Err at) → at < bound
 with_word None job at bound h e = absurd cc
 with_word (Some n) job at bound h e = omega (arith, h n refl, err_is {T = Job} n at e)
 
@@ -205,7 +205,7 @@ word_within words at e = by (misplaced [] words) refl e
     by None q e = behind_word words at e
     by (Some n) q e = omega (arith, misplaced_within [] words n q, err_is {T = Job} n at e)
 
-texts_len : (words : List (String Global)) → length (texts words) ≡ length words
+pub texts_len : (words : List (String Global)) → length (texts words) ≡ length words
 texts_len [] = refl
 texts_len (word ∷ words) = omega (arith, texts_len words)
 

@@ -4,7 +4,7 @@ use Rattle.frame_model.specs.declared.framing.Framing.{Framing}
 use Rattle.frame_model.specs.declared.framing.Framing.TheVariants.{Line}
 use Rattle.frame_model.specs.declared.job.Job.{Job}
 use Rattle.relay_words.specs.declared.command.Command.{Command}
-use Rattle.relay_words.specs.declared.command.Command.TheVariants.{Copy, Pump, Drill}
+use Rattle.relay_words.specs.declared.command.Command.TheVariants.{Copy, Pump, Drill, Batch}
 
 -- A relay of lines, with these numbers.
 abbrev pub lines : Framing → ℕ → ℕ → ℕ → ℕ → Job
@@ -18,3 +18,6 @@ pumped_job output max seg pause resume = Ok (Pump (lines output max seg pause re
 
 abbrev pub drilled_job : ℕ → ℕ → Framing → ℕ → ℕ → ℕ → ℕ → Result Command ℕ
 drilled_job seed count output max seg pause resume = Ok (Drill seed count (lines output max seg pause resume))
+
+abbrev pub batched_job : ℕ → ℕ → Framing → ℕ → ℕ → ℕ → ℕ → Result Command ℕ
+batched_job workers names_from output max seg pause resume = Ok (Batch workers (lines output max seg pause resume) names_from)

@@ -25,6 +25,11 @@ pause_of word = number_of_key (codes "pause=") 0 16777216 word
 abbrev pub resume_of : List ℕ → Option ℕ
 resume_of word = number_of_key (codes "resume=") 1 16777216 word
 
+-- A word begins as one of the keys does, whatever stands behind the `=`.
+abbrev pub is_keyed : List ℕ → Bool
+is_keyed word =
+    starts_with nat_eq word (codes "max=") || starts_with nat_eq word (codes "seg=") || starts_with nat_eq word (codes "pause=") || starts_with nat_eq word (codes "resume=")
+
 -- What stands for a key behind a word: the word's number, with the index of the word, or what stood before.
 abbrev pub given_by : ℕ → Option ℕ → Option Given → Option Given
 given_by at None before = before

@@ -1,16 +1,18 @@
 -- Which words are a command.
-use Rattle.std.specs.Prelude.{ℕ, ◌^◌, ◌+◌, Bool, List, [], ◌∷◌, ◌++◌, length, Option, Some, None, Result, Ok, Err, codes, is_some, map, unwrap_or, string_bytes, String, if◌then◌else◌}
+use Rattle.std.specs.Prelude.{ℕ, ⊤, ◌^◌, ◌+◌, Bool, List, [], ◌∷◌, ◌++◌, length, take, drop, Option, Some, None, Result, Ok, Err, codes, is_some, map, unwrap_or, string_bytes, String, if◌then◌else◌}
 use Rattle.std.specs.declared.alloc.Global.{Global}
+use Rattle.std.specs.List.{prefix_len}
 use Rattle.std.specs.Str.{bytes_eq}
 use Rattle.frame_model.specs.declared.framing.Framing.{Framing}
 use Rattle.frame_model.specs.declared.framing.Framing.TheVariants.{Len4, Len2, Line}
 use Rattle.frame_model.specs.declared.job.Job.{Job}
 use Rattle.relay_words.specs.declared.command.Command.{Command}
-use Rattle.relay_words.specs.declared.command.Command.TheVariants.{Copy, Pump, Drill}
+use Rattle.relay_words.specs.declared.command.Command.TheVariants.{Copy, Pump, Drill, Batch}
 use Rattle.relay_words.specs.declared.command.Kind.{Kind}
 use Rattle.relay_words.specs.declared.command.Kind.TheVariants as kinds
 use Rattle.relay_words.specs.declared.keys.Keys.{Keys}
-use Rattle.relay_words.specs.Keys.{above, adds, keys_among, number_or, pause_in, usual_resume}
+use Rattle.relay_words.specs.Keys.{above, adds, is_keyed, keys_among, number_or, pause_in, usual_resume}
+use Rattle.relay_words.specs.Names.{misnamed}
 use Rattle.relay_words.specs.Numbers.{number_within}
 
 abbrev pub texts : List (String Global) → List (List ℕ)
@@ -22,6 +24,7 @@ kind_of word =
     if bytes_eq word (codes "copy") then Some kinds.Copy
     else if bytes_eq word (codes "pump") then Some kinds.Pump
     else if bytes_eq word (codes "drill") then Some kinds.Drill
+    else if bytes_eq word (codes "batch") then Some kinds.Batch
     else None
 
 abbrev pub framing_of : List ℕ → Option Framing
@@ -82,11 +85,40 @@ abbrev pub drill_in : List (List ℕ) → Result Command ℕ
 drill_in [] = Err 1
 drill_in (word ∷ words) = elim (number_within 0 4294967295 word) [ None ↦ Err 1 | Some seed ↦ drill_from seed words ]
 
+-- The words of a relay at the front of these: two framings, and then the words up to the first that begins as no key.
+abbrev pub relay_part : List (List ℕ) → List (List ℕ)
+relay_part (input ∷ output ∷ words) = input ∷ output ∷ take (prefix_len is_keyed words) words
+relay_part words = words
+
+-- The words behind those, which are names.
+abbrev pub names_part : List (List ℕ) → List (List ℕ)
+names_part (input ∷ output ∷ words) = drop (prefix_len is_keyed words) words
+names_part words = []
+
+-- A batch of so many workers, whose words of a relay and names can all be read where they stand.
+abbrev pub batch_behind : ℕ → List (List ℕ) → List (List ℕ) → Result Command ℕ
+batch_behind workers relay [] = Err (2 + length relay)
+batch_behind workers relay (name ∷ names) = elim (job_behind relay) [ Ok job ↦ Ok (Batch workers job (2 + length relay)) | Err at ↦ Err (1 + at) ]
+
+-- A batch of so many workers. A word that can't be read is told before a missing one, and before a resume threshold above the
+-- pause threshold.
+abbrev pub batch_with : ℕ → List (List ℕ) → List (List ℕ) → Result Command ℕ
+batch_with workers relay names = elim (misplaced [] relay) [
+  | Some at ↦ Err (1 + at)
+  | None ↦ elim (misnamed [] names) [ Some at ↦ Err (2 + length relay + at) | None ↦ batch_behind workers relay names ]
+]
+
+-- The words behind `batch`.
+abbrev pub batch_in : List (List ℕ) → Result Command ℕ
+batch_in [] = Err 1
+batch_in (word ∷ words) = elim (number_within 1 16 word) [ None ↦ Err 1 | Some workers ↦ batch_with workers (relay_part words) (names_part words) ]
+
 -- The words behind the word of a command.
 abbrev pub command_with : Kind → List (List ℕ) → Result Command ℕ
 command_with kinds.Copy words = elim (job_in words) [ Ok job ↦ Ok (Copy job) | Err at ↦ Err at ]
 command_with kinds.Pump words = elim (job_in words) [ Ok job ↦ Ok (Pump job) | Err at ↦ Err at ]
 command_with kinds.Drill words = drill_in words
+command_with kinds.Batch words = batch_in words
 
 -- The command, or the index of the first word that can't be read, or the number of words where one is missing, or the index of a
 -- resume threshold above the pause threshold.
@@ -99,9 +131,18 @@ abbrev pub job_of : Command → Job
 job_of (Copy job) = job
 job_of (Pump job) = job
 job_of (Drill seed count job) = job
+job_of (Batch workers job names_from) = job
 
 -- How many frames a command makes.
 abbrev pub frames_made : Command → ℕ
 frames_made (Copy job) = 0
 frames_made (Pump job) = 0
 frames_made (Drill seed count job) = count
+frames_made (Batch workers job names_from) = 0
+
+-- This holds of its workers, its job and the index of its first name, where the command is a batch.
+abbrev pub IfBatch : Command → (ℕ → Job → ℕ → Type 0) → Type 0
+IfBatch (Copy job) P = ⊤
+IfBatch (Pump job) P = ⊤
+IfBatch (Drill seed count job) P = ⊤
+IfBatch (Batch workers job names_from) P = P workers job names_from

@@ -1,7 +1,7 @@
 //! Worked cases of the definitions, computed by the check. These functions do nothing.
 
 ghost use Rattle.std.specs.Prelude.{◌≡◌, ◌∷◌, [], codes, Some, None, Err};
-ghost use Rattle.relay_words.specs.Cases.{drilled_job, line_job, pumped_job};
+ghost use Rattle.relay_words.specs.Cases.{batched_job, drilled_job, line_job, pumped_job};
 ghost use Rattle.relay_words.specs.Numbers.{number_of};
 ghost use Rattle.relay_words.specs.Words.{command_of};
 
@@ -45,7 +45,7 @@ pub fn word_cases()
     ensures pump { command_of (codes "pump" ∷ codes "line" ∷ codes "len2" ∷ codes "seg=64" ∷ []) ≡ pumped_job Framing.Len2 65536 64 65536 32768 }
     ensures pump_alone { command_of (codes "pump" ∷ []) ≡ Err 1 }
     ensures pumps { command_of (codes "pumps" ∷ codes "line" ∷ codes "len2" ∷ []) ≡ Err 0 }
-    ensures batch { command_of (codes "batch" ∷ codes "2" ∷ []) ≡ Err 0 }
+    ensures serve { command_of (codes "serve" ∷ codes "2" ∷ []) ≡ Err 0 }
     ensures drill { command_of (codes "drill" ∷ codes "2" ∷ codes "1" ∷ codes "line" ∷ codes "len4" ∷ codes "seg=64" ∷ []) ≡ drilled_job 2 1 Framing.Len4 65536 64 65536 32768 }
     ensures greatest_drill { command_of (codes "drill" ∷ codes "4294967295" ∷ codes "1000000" ∷ codes "line" ∷ codes "len2" ∷ []) ≡ drilled_job 4294967295 1000000 Framing.Len2 65536 4096 65536 32768 }
     ensures seed_too_great { command_of (codes "drill" ∷ codes "4294967296" ∷ codes "1" ∷ codes "line" ∷ codes "len4" ∷ []) ≡ Err 1 }
@@ -56,4 +56,22 @@ pub fn word_cases()
     ensures drill_without_framings { command_of (codes "drill" ∷ codes "0" ∷ codes "0" ∷ []) ≡ Err 3 }
     ensures drill_of_one_framing { command_of (codes "drill" ∷ codes "0" ∷ codes "0" ∷ codes "line" ∷ []) ≡ Err 4 }
     ensures drill_with_a_key_twice { command_of (codes "drill" ∷ codes "0" ∷ codes "0" ∷ codes "line" ∷ codes "line" ∷ codes "max=1" ∷ codes "max=1" ∷ []) ≡ Err 6 }
+{}
+
+/// Words of a batch.
+pub fn batch_cases()
+    ensures batch_alone { command_of (codes "batch" ∷ []) ≡ Err 1 }
+    ensures no_worker { command_of (codes "batch" ∷ codes "0" ∷ codes "line" ∷ codes "len4" ∷ codes "a" ∷ []) ≡ Err 1 }
+    ensures too_many_workers { command_of (codes "batch" ∷ codes "17" ∷ codes "line" ∷ codes "len4" ∷ codes "a" ∷ []) ≡ Err 1 }
+    ensures batch_of_one_framing { command_of (codes "batch" ∷ codes "2" ∷ codes "line" ∷ []) ≡ Err 3 }
+    ensures batch_without_names { command_of (codes "batch" ∷ codes "2" ∷ codes "line" ∷ codes "len4" ∷ []) ≡ Err 4 }
+    ensures batch_without_names_above_pause { command_of (codes "batch" ∷ codes "2" ∷ codes "line" ∷ codes "line" ∷ codes "resume=70000" ∷ []) ≡ Err 5 }
+    ensures batch_above_pause { command_of (codes "batch" ∷ codes "2" ∷ codes "line" ∷ codes "line" ∷ codes "resume=70000" ∷ codes "a" ∷ []) ≡ Err 4 }
+    ensures name_behind_a_bad_key { command_of (codes "batch" ∷ codes "2" ∷ codes "line" ∷ codes "len4" ∷ codes "max=01" ∷ codes "a" ∷ []) ≡ Err 4 }
+    ensures name_of_an_outlet { command_of (codes "batch" ∷ codes "2" ∷ codes "line" ∷ codes "len4" ∷ codes "a.out" ∷ []) ≡ Err 4 }
+    ensures bad_name_above_pause { command_of (codes "batch" ∷ codes "2" ∷ codes "line" ∷ codes "len4" ∷ codes "resume=70000" ∷ codes "a.out" ∷ []) ≡ Err 5 }
+    ensures name_twice { command_of (codes "batch" ∷ codes "2" ∷ codes "line" ∷ codes "len4" ∷ codes "a" ∷ codes "a" ∷ []) ≡ Err 5 }
+    ensures batch_of_two { command_of (codes "batch" ∷ codes "2" ∷ codes "line" ∷ codes "len4" ∷ codes "max=9" ∷ codes "a" ∷ codes "max=9" ∷ []) ≡ batched_job 2 5 Framing.Len4 9 4096 65536 32768 }
+    ensures name_without_a_number { command_of (codes "batch" ∷ codes "16" ∷ codes "line" ∷ codes "len2" ∷ codes "max" ∷ []) ≡ batched_job 16 4 Framing.Len2 65536 4096 65536 32768 }
+    ensures empty_name { command_of (codes "batch" ∷ codes "2" ∷ codes "line" ∷ codes "len4" ∷ [] ∷ []) ≡ Err 4 }
 {}

@@ -7,12 +7,27 @@ use thiserror::Error;
 #[derive(Clone, Copy, Debug, PartialEq, Eq)]
 pub enum Command {
     /// Relays the source to the sink on one thread.
-    Copy { job: Job },
+    Copy {
+        job: Job,
+    },
     /// The same on two threads.
-    Pump { job: Job },
+    Pump {
+        job: Job,
+    },
     /// Relays an input of `count` frames that is made from `seed` into memory, on two threads, and writes to the sink how many
     /// frames and bytes that were.
-    Drill { seed: u32, count: u32, job: Job },
+    Drill {
+        seed: u32,
+        count: u32,
+        job: Job,
+    },
+    /// Relays an input for each name to an output of that name, by `workers` threads. The names are the words from the one with
+    /// the index `names_from` on, where the command has the index 0.
+    Batch {
+        workers: usize,
+        job: Job,
+        names_from: usize,
+    },
 }
 
 /// A command without its numbers and its job, as its word names it.
@@ -21,6 +36,7 @@ pub enum Kind {
     Copy,
     Pump,
     Drill,
+    Batch,
 }
 
 /// Words that are no command. `word` is the index, from 0, of the first one that can't be read where it stands, or the

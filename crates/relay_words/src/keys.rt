@@ -1,8 +1,9 @@
 //! The keys behind the framings.
 
-ghost use Rattle.std.specs.Prelude.{◌≡◌, ◌≤◌, ◌&&◌, nat_le, IfSome, ◌+◌, ◌∷◌, [], ℕ, List, Some, None, Ok, Err, if◌then◌else◌, length};
+ghost use Rattle.std.specs.Prelude.{◌≡◌, ◌≤◌, ◌&&◌, nat_le, IfSome, ◌+◌, ◌∷◌, [], ℕ, List, Some, None, Ok, Err, if◌then◌else◌, length, take, drop, nat_eq};
 ghost use Rattle.relay_words.specs.Numbers.{number_of, number_within as number_within_of};
-ghost use Rattle.relay_words.specs.Keys.{adds, given_by as given_by_of, is_new as is_new_of, keys_among, keys_with, number_of_key as number_of_key_of};
+ghost use Rattle.std.specs.List.{prefix_len, starts_with};
+ghost use Rattle.relay_words.specs.Keys.{adds, given_by as given_by_of, is_keyed as is_keyed_of, is_new as is_new_of, keys_among, keys_with, number_of_key as number_of_key_of};
 ghost use Rattle.relay_words.specs.Words.{misplaced, texts};
 
 use crate::number::read_number;
@@ -115,4 +116,40 @@ fn is_within(least: u64, greatest: u64, number: u64) -> bool
     ensures { result ≡ (nat_le least number && nat_le number greatest) }
 {
     least <= number && number <= greatest
+}
+
+/// These words up to the first that begins as no key, and those from there on.
+pub(crate) fn split_keys(words: &[String]) -> (&[String], &[String])
+    ensures keys { texts result.0.now ≡ take (prefix_len is_keyed_of (texts words.now)) (texts words.now) }
+    ensures behind { texts result.1.now ≡ drop (prefix_len is_keyed_of (texts words.now)) (texts words.now) }
+    ensures parts { length result.0.now + length result.1.now ≡ length words.now }
+{
+    words.split_at(keyed_len(words))
+}
+
+/// How many of these words come before the first that begins as no key.
+fn keyed_len(words: &[String]) -> usize
+    ensures value { result ≡ prefix_len is_keyed_of (texts words.now) }
+    ensures within { result ≤ length words.now }
+{
+    words
+        .iter()
+        .take_while(|word| is_keyed(word.as_str()))
+        .count()
+}
+
+/// Whether a word begins as one of the keys does.
+fn is_keyed(word: &str) -> bool
+    ensures { result ≡ is_keyed_of word.now }
+{
+    begins(word, "max=")
+        || begins(word, "seg=")
+        || begins(word, "pause=")
+        || begins(word, "resume=")
+}
+
+fn begins(word: &str, name: &str) -> bool
+    ensures { result ≡ starts_with nat_eq word.now name.now }
+{
+    word.starts_with(name)
 }

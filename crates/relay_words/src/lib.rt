@@ -1,14 +1,16 @@
 //! The words of the relay's commands, and the jobs that they ask for.
 #![tactic(auto)]
 
+mod batch;
 mod cases;
 mod command;
 mod keys;
+mod names;
 mod number;
 #[cfg(test)]
 mod tests;
 mod words;
 
-pub use cases::{number_cases, word_cases};
+pub use cases::{batch_cases, number_cases, word_cases};
 pub use command::{Command, Usage};
 pub use words::read_words;

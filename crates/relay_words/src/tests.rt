@@ -6,12 +6,16 @@ use std::alloc::{AllocError, Global};
 use std::fmt::Write;
 use std::test::Fail;
 
-fn read(alloc: Global, texts: &[&str]) -> Result<Result<Command, Usage>, AllocError> {
+fn strings(alloc: Global, texts: &[&str]) -> Result<Vec<String>, AllocError> {
     let mut words = Vec::new(alloc);
     for text in texts {
         words.push(String::from_str(alloc, text)?)?;
     }
-    Ok(read_words(words.as_slice()))
+    Ok(words)
+}
+
+fn read(alloc: Global, texts: &[&str]) -> Result<Result<Command, Usage>, AllocError> {
+    Ok(read_words(strings(alloc, texts)?.as_slice()))
 }
 
 fn job(input: Framing, output: Framing) -> Job {
@@ -126,7 +130,7 @@ fn words_of_a_command(rt: HostRuntime) -> Result<(), Fail> {
 #[test]
 fn words_of_no_command(rt: HostRuntime) -> Result<(), Fail> {
     let alloc = rt.alloc();
-    let cases: [(&[&str], usize); 41] = [
+    let cases: [(&[&str], usize); 40] = [
         (&[], 0),
         (&["Copy", "line", "len4"], 0),
         (&["copy "], 0),
@@ -140,7 +144,6 @@ fn words_of_no_command(rt: HostRuntime) -> Result<(), Fail> {
             &["drill", "1", "0", "line", "len4", "pause=8", "resume=9"],
             6,
         ),
-        (&["batch"], 0),
         (&["serve"], 0),
         (&["pump"], 1),
         (&["pump", "line", "copy"], 2),
@@ -175,6 +178,150 @@ fn words_of_no_command(rt: HostRuntime) -> Result<(), Fail> {
     for (words, word) in cases {
         assert_eq!(rt; read(alloc, words)?, Err(Usage { word }));
     }
+    Ok(())
+}
+
+#[test]
+fn words_of_a_batch(rt: HostRuntime) -> Result<(), Fail> {
+    let alloc = rt.alloc();
+    let usual = job(Framing::Line, Framing::Len4);
+    let cases: [(&[&str], usize, usize, Job); 7] = [
+        (&["batch", "1", "line", "len4", "a"], 1, 4, usual),
+        (&["batch", "16", "line", "len4", "a", "b"], 16, 4, usual),
+        (
+            &["batch", "2", "line", "len4", "max=9", "a", "max=9"],
+            2,
+            5,
+            Job { max: 9, ..usual },
+        ),
+        (
+            &[
+                "batch", "2", "line", "len4", "seg=64", "max=9", "max", "a.out2",
+            ],
+            2,
+            6,
+            Job {
+                max: 9,
+                seg: 64,
+                ..usual
+            },
+        ),
+        (&["batch", "2", "line", "len4", "a", "max=x"], 2, 4, usual),
+        (
+            &["batch", "2", "line", "len4", "a", ".Out", "aa"],
+            2,
+            4,
+            usual,
+        ),
+        (
+            &[
+                "batch",
+                "2",
+                "line",
+                "len4",
+                "pause=0",
+                "resume=70000",
+                "batch",
+            ],
+            2,
+            6,
+            Job {
+                pause: 0,
+                resume: 70_000,
+                ..usual
+            },
+        ),
+    ];
+    for (words, workers, names_from, job) in cases {
+        let batch = Command::Batch {
+            workers,
+            job,
+            names_from,
+        };
+        assert_eq!(rt; read(alloc, words)?, Ok(batch));
+    }
+    Ok(())
+}
+
+#[test]
+fn words_of_no_batch(rt: HostRuntime) -> Result<(), Fail> {
+    let alloc = rt.alloc();
+    let cases: [(&[&str], usize); 25] = [
+        (&["batch"], 1),
+        (&["batch", "0", "line", "len4", "a"], 1),
+        (&["batch", "17", "line", "len4", "a"], 1),
+        (&["batch", "02", "line", "len4", "a"], 1),
+        (&["batch", "line", "len4", "a"], 1),
+        (&["batch", "2"], 2),
+        (&["batch", "2", "max=9", "line", "len4", "a"], 2),
+        (&["batch", "2", "line"], 3),
+        (&["batch", "2", "line", "a"], 3),
+        (&["batch", "2", "line", "len4"], 4),
+        (&["batch", "2", "line", "len4", "max=9"], 5),
+        (&["batch", "2", "line", "len4", ""], 4),
+        (&["batch", "2", "line", "len4", "max=", "a"], 4),
+        (&["batch", "2", "line", "len4", "seg=63", "a"], 4),
+        (&["batch", "2", "line", "len4", "max=9", "max=9", "a"], 5),
+        (&["batch", "2", "line", "len4", "a", "a"], 5),
+        (&["batch", "2", "line", "len4", "a", "b", "max=9", "b"], 7),
+        (&["batch", "2", "line", "len4", "a", "max=9", "max=9"], 6),
+        (&["batch", "2", "line", "len4", "a.out"], 4),
+        (&["batch", "2", "line", "len4", "a", ".out"], 5),
+        (&["batch", "2", "line", "line", "resume=70000"], 5),
+        (&["batch", "2", "line", "line", "resume=70000", "a"], 4),
+        (
+            &["batch", "2", "line", "line", "pause=8", "resume=9", "a"],
+            5,
+        ),
+        (&["batch", "2", "line", "line", "resume=70000", "a", "a"], 6),
+        (&["batch", "2", "line", "line", "resume=0", "a"], 4),
+    ];
+    for (words, word) in cases {
+        assert_eq!(rt; read(alloc, words)?, Err(Usage { word }));
+    }
+    Ok(())
+}
+
+const FRONT: &[&str] = &["batch", "2", "line", "len4"];
+
+/// What is read of a batch with one name, which is so many times a text.
+fn batch_named(
+    alloc: Global,
+    text: &str,
+    times: u32,
+) -> Result<Result<Command, Usage>, AllocError> {
+    let mut words = strings(alloc, FRONT)?;
+    let mut name = String::new(alloc);
+    for _ in 0..times {
+        name.push_str(text)?;
+    }
+    words.push(name)?;
+    Ok(read_words(words.as_slice()))
+}
+
+/// What is read of a batch with so many names.
+fn batch_of(alloc: Global, count: u32) -> Result<Result<Command, Usage>, AllocError> {
+    let mut words = strings(alloc, FRONT)?;
+    for number in 0..count {
+        words.push(format!(in alloc; "{number}")?)?;
+    }
+    Ok(read_words(words.as_slice()))
+}
+
+#[test]
+fn a_name_has_up_to_255_bytes_and_a_batch_up_to_256_names(rt: HostRuntime) -> Result<(), Fail> {
+    let alloc = rt.alloc();
+    let batch = Command::Batch {
+        workers: 2,
+        job: job(Framing::Line, Framing::Len4),
+        names_from: 4,
+    };
+    assert_eq!(rt; batch_named(alloc, "a", 255)?, Ok(batch));
+    assert_eq!(rt; batch_named(alloc, "a", 256)?, Err(Usage { word: 4 }));
+    assert_eq!(rt; batch_named(alloc, "é", 127)?, Ok(batch));
+    assert_eq!(rt; batch_named(alloc, "é", 128)?, Err(Usage { word: 4 }));
+    assert_eq!(rt; batch_of(alloc, 256)?, Ok(batch));
+    assert_eq!(rt; batch_of(alloc, 257)?, Err(Usage { word: 260 }));
     Ok(())
 }
 

@@ -1,10 +1,12 @@
 //! Reading the words of a command.
 
-ghost use Rattle.std.specs.Prelude.{◌≡◌, ◌≤◌, ◌+◌, ◌^◌, length, IfErr, IfOk, Ok, Err};
+ghost use Rattle.std.specs.Prelude.{◌≡◌, ◌<◌, ◌≤◌, ◌+◌, ◌^◌, drop, length, IfErr, IfOk, Ok, Err};
 ghost use Rattle.frame_model.specs.Job.{IsInRange};
 ghost use Rattle.relay_words.specs.Keys.{above, number_or as number_or_of, usual_resume as usual_resume_of};
-ghost use Rattle.relay_words.specs.Words.{command_of, drill_from as drill_from_of, drill_in as drill_in_of, frames_made, framing_of, job_in as job_in_of, job_of, job_with, kind_of, texts};
+ghost use Rattle.relay_words.specs.Words.{command_of, drill_from as drill_from_of, drill_in as drill_in_of, frames_made, framing_of, job_in as job_in_of, job_of, job_with, kind_of, texts, IfBatch};
+ghost use Rattle.relay_words.specs.Names.{AreNames};
 
+use crate::batch::batch_in;
 use crate::command::{Command, Kind, Usage};
 use crate::keys::{Given, Keys, keys_in, number_within};
 use frame_grammar::{Framing, Job};
@@ -34,6 +36,9 @@ pub fn read_words(words: &[String]) -> Result<Command, Usage>
     ensures in_range { IfOk result (λ command. IsInRange (job_of command)) }
     ensures limit { IfOk result (λ command. (job_of command).limit ≡ 2 ^ 40) }
     ensures few { IfOk result (λ command. frames_made command ≤ 1000000) }
+    ensures workers { IfOk result (λ command. IfBatch command (λ workers job names_from. (1 ≤ workers) × (workers ≤ 16))) }
+    ensures names_from { IfOk result (λ command. IfBatch command (λ workers job names_from. names_from < length words.now)) }
+    ensures names { IfOk result (λ command. IfBatch command (λ workers job names_from. AreNames (drop names_from (texts words.now)))) }
 {
     match command_in(words) {
         Ok(command) => Ok(command),
@@ -58,6 +63,7 @@ fn command_in(words: &[String]) -> Result<Command, usize>
         Kind::Copy => Ok(Command::Copy { job: job_in(rest)? }),
         Kind::Pump => Ok(Command::Pump { job: job_in(rest)? }),
         Kind::Drill => drill_in(rest),
+        Kind::Batch => batch_in(rest),
     }
 }
 
@@ -68,6 +74,7 @@ fn kind(word: &str) -> Option<Kind>
         "copy" => Some(Kind::Copy),
         "pump" => Some(Kind::Pump),
         "drill" => Some(Kind::Drill),
+        "batch" => Some(Kind::Batch),
         _ => None,
     }
 }
@@ -140,7 +147,7 @@ fn read_job(words: &[String]) -> Result<Job, usize>
     job(input, output, keys)
 }
 
-fn framing(word: &str) -> Option<Framing>
+pub(crate) fn framing(word: &str) -> Option<Framing>
     ensures { result ≡ framing_of word.now }
 {
     match word {
@@ -152,7 +159,7 @@ fn framing(word: &str) -> Option<Framing>
 }
 
 /// The job, with the usual numbers where no key says them, or the index of a resume threshold above the pause threshold.
-fn job(input: Framing, output: Framing, keys: Keys) -> Result<Job, usize>
+pub(crate) fn job(input: Framing, output: Framing, keys: Keys) -> Result<Job, usize>
     ensures { result ≡ job_with input output keys }
 {
     let pause = number_or(USUAL_PAUSE, keys.pause);

@@ -1,6 +1,16 @@
--- A drill has no source.
-use Rattle.std.proofs.Common.{refl}
+-- A drill and a batch have no source.
+use Rattle.std.proofs.Common.{ℕ, List, refl, subst, sym}
+use Rattle.relay_words.specs.Names.{AreNames}
+use Rattle.relay_top.proofs.RelayLemmas.{batch_of, names_of}
 use Rattle.relay_top.proofs.threaded.run_threaded.Goals as goal
 
 pub returns-in-Drill : goal.returns-in-Drill
-returns-in-Drill g c = rw c.in-Drill.is (refl, c.drill.ensures)
+returns-in-Drill g c = rw c.in-Drill.is (refl, refl, c.drill.ensures)
+
+pub batch-requires-clause-names : goal.batch-requires-clause-names
+batch-requires-clause-names g c κs within =
+    let names = rw c.in-Batch.is at c.requires.names in
+    subst (λ (xs : List (List ℕ)). AreNames xs) (sym (names_of c.args.words.now c.in-Batch.names_from)) names
+
+pub returns-in-Batch : goal.returns-in-Batch
+returns-in-Batch g c = rw c.in-Batch.is (refl, batch_of _ _ _ _ _ _ _ _ _ _ _ (names_of c.args.words.now c.in-Batch.names_from) c.batch.ensures)

@@ -1,0 +1,241 @@
+//! `batch`, whose names belong to devices in memory.
+
+ghost use Rattle.std.specs.Prelude.{◌≡◌, IfOk};
+ghost use Rattle.edge_core.specs.MemDoors.{IsFresh, name_of};
+
+use crate::case::strings;
+use edge_core::{MemDoors, MemSink, MemSource, Source};
+use relay_top::relay_main;
+use std::alloc::{AllocError, Global};
+use std::sync::Wait;
+use std::test::Fail;
+use std::thread::Threads;
+
+const UNREAD: &[u8] = b"unread";
+
+/// What the two names a and b have, which reads of a and writes to it fail, which openings fail, the words behind the command,
+/// which calls of the sink fail, and what is to come out: the bytes of each sink that came back, in their order, the lines, the
+/// status and the line on faults.
+#[derive(Clone, Copy)]
+struct Batch<'a> {
+    contents: [&'a [u8]; 2],
+    failing_reads: &'a [u64],
+    failing_writes: &'a [u64],
+    failing_openings: &'a [u64],
+    words: &'a [&'a str],
+    fails: &'a [u64],
+    outlets: &'a [&'a [u8]],
+    output: &'a [u8],
+    status: u8,
+    line: &'a [u8],
+}
+
+/// One frame, and a frame of which four bytes are missing.
+const USUAL: Batch<'static> = Batch {
+    contents: [&[0, 0, 0, 1, b'a'], &[0, 0, 0, 5, b'h']],
+    failing_reads: &[],
+    failing_writes: &[],
+    failing_openings: &[],
+    words: &["2", "len4", "line", "a", "b"],
+    fails: &[],
+    outlets: &[b"a\n", b""],
+    output: b"a 0 1\nb 3 0\n",
+    status: 3,
+    line: b"b: truncated at 0\n",
+};
+
+/// The same where an opening is refused.
+fn refused<'a>(failing_openings: &'a [u64], outlets: &'a [&'a [u8]], line: &'a [u8]) -> Batch<'a> {
+    Batch {
+        failing_openings,
+        outlets,
+        output: b"",
+        status: 8,
+        line,
+        ..USUAL
+    }
+}
+
+/// A name with a source of these bytes and a sink.
+fn named(
+    alloc: Global,
+    name: &str,
+    content: &[u8],
+    failing_reads: &[u64],
+    failing_writes: &[u64],
+) -> Result<(String, MemSource, MemSink), AllocError>
+    ensures name { IfOk result (λ devices. name_of devices ≡ name.now) }
+    ensures fresh { IfOk result IsFresh }
+{
+    Ok((
+        String::from_str(alloc, name)?,
+        MemSource::make(
+            content.to_vec(alloc)?,
+            Vec::new(alloc),
+            failing_reads.to_vec(alloc)?,
+        ),
+        MemSink::make(alloc, 64, Vec::new(alloc), failing_writes.to_vec(alloc)?)?,
+    ))
+}
+
+fn doors_of(alloc: Global, case: &Batch<'_>) -> Result<MemDoors, AllocError> {
+    let [first, second] = case.contents;
+    let mut names = Vec::new(alloc);
+    names.push(named(alloc, "a", first, case.failing_reads, case.failing_writes)?)?;
+    names.push(named(alloc, "b", second, &[], &[])?)?;
+    MemDoors::make(
+        alloc,
+        names,
+        Vec::new(alloc),
+        Vec::new(alloc),
+        case.failing_openings.to_vec(alloc)?,
+    )
+}
+
+/// Whether these sinks have taken these bytes.
+fn hold(sinks: &[MemSink], bytes: &[&[u8]]) -> bool {
+    sinks.len() == bytes.len()
+        && sinks
+            .iter()
+            .zip(bytes)
+            .all(|(sink, bytes)| sink.bytes() == *bytes)
+}
+
+/// Whether the command does what the case says, and reads nothing of its source.
+fn holds<R: Wait + Threads + Sync>(
+    rt: &R,
+    alloc: Global,
+    case: &Batch<'_>,
+) -> Result<bool, AllocError> {
+    let mut words = strings(alloc, case.words)?;
+    words.insert(0, String::from_str(alloc, "batch")?)?;
+    let mut source = MemSource::make(UNREAD.to_vec(alloc)?, Vec::new(alloc), Vec::new(alloc));
+    let mut sink = MemSink::make(alloc, 64, Vec::new(alloc), case.fails.to_vec(alloc)?)?;
+    let mut faults = MemSink::make(alloc, 64, Vec::new(alloc), Vec::new(alloc))?;
+    let mut doors = doors_of(alloc, case)?;
+    if words.len() >= 1 << 32 {
+        return Ok(false);
+    }
+    let status = relay_main(
+        rt,
+        alloc,
+        words.as_slice(),
+        &mut source,
+        &mut sink,
+        &mut faults,
+        &mut doors,
+    );
+    let unread = source.read(&mut [0; 64]) == Ok(UNREAD.len());
+    let told = sink.bytes() == case.output && faults.bytes() == case.line;
+    Ok(status == case.status && told && unread && hold(doors.outlets(), case.outlets))
+}
+
+#[test]
+fn each_name_has_its_line(rt: HostRuntime) -> Result<(), Fail> {
+    let alloc = rt.alloc();
+    let cases = [
+        USUAL,
+        Batch {
+            words: &["1", "len4", "line", "seg=64", "b", "a"],
+            outlets: &[b"", b"a\n"],
+            output: b"b 3 0\na 0 1\n",
+            ..USUAL
+        },
+        Batch {
+            words: &["16", "line", "line", "max=9", "a"],
+            contents: [b"x\ny\n", b""],
+            outlets: &[b"x\ny\n"],
+            output: b"a 0 2\n",
+            status: 0,
+            line: b"",
+            ..USUAL
+        },
+        Batch {
+            words: &["2", "len4", "line", "max=0", "a", "b"],
+            outlets: &[b"", b""],
+            output: b"a 2 0\nb 2 0\n",
+            status: 2,
+            line: b"a: bad frame at 0: length 1\n",
+            ..USUAL
+        },
+    ];
+    for case in &cases {
+        assert!(rt; holds(&rt, alloc, case)?);
+    }
+    Ok(())
+}
+
+#[test]
+fn a_device_that_fails_shows_in_the_line_of_its_name(rt: HostRuntime) -> Result<(), Fail> {
+    let alloc = rt.alloc();
+    let cases = [
+        Batch {
+            failing_reads: &[1],
+            outlets: &[b"", b""],
+            output: b"a 4 0\nb 3 0\n",
+            status: 4,
+            line: b"a: read fault after 0\n",
+            ..USUAL
+        },
+        Batch {
+            failing_writes: &[1],
+            outlets: &[b"", b""],
+            output: b"a 5 0\nb 3 0\n",
+            status: 5,
+            line: b"a: write fault after 0\n",
+            ..USUAL
+        },
+    ];
+    for case in &cases {
+        assert!(rt; holds(&rt, alloc, case)?);
+    }
+    Ok(())
+}
+
+#[test]
+fn an_opening_that_fails_ends_the_command(rt: HostRuntime) -> Result<(), Fail> {
+    let alloc = rt.alloc();
+    let cases = [
+        refused(&[1], &[], b"door fault at word 4\n"),
+        refused(&[2], &[], b"door fault at word 4\n"),
+        refused(&[3], &[b""], b"door fault at word 5\n"),
+        refused(&[4], &[b""], b"door fault at word 5\n"),
+        Batch {
+            words: &["2", "len4", "line", "seg=64", "a", "c"],
+            ..refused(&[], &[b""], b"door fault at word 6\n")
+        },
+    ];
+    for case in &cases {
+        assert!(rt; holds(&rt, alloc, case)?);
+    }
+    Ok(())
+}
+
+// The lines are one write, the flush is the second call, and there is no third one.
+#[test]
+fn a_fault_of_the_sink_comes_before_those_of_names(rt: HostRuntime) -> Result<(), Fail> {
+    let alloc = rt.alloc();
+    let cases = [
+        Batch {
+            fails: &[1],
+            output: b"",
+            status: 5,
+            line: b"write fault after 0\n",
+            ..USUAL
+        },
+        Batch {
+            fails: &[2],
+            status: 5,
+            line: b"write fault after 12\n",
+            ..USUAL
+        },
+        Batch {
+            fails: &[3],
+            ..USUAL
+        },
+    ];
+    for case in &cases {
+        assert!(rt; holds(&rt, alloc, case)?);
+    }
+    Ok(())
+}

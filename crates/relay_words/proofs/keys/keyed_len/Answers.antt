@@ -1,0 +1,16 @@
+use Rattle.std.proofs.Common.{◌∙◌, rules, tests}
+use Rattle.std.specs.Prelude.{string_bytes}
+use Rattle.std.proofs.lemmas.Iterator.{YieldsList-from_slice}
+use Rattle.std.proofs.lemmas.Iterator.Consumers.{count_from_yields_List}
+use Rattle.std.proofs.lemmas.Iterator.Search.{YieldsList-from_take_while}
+use Rattle.std.proofs.lemmas.List.Folds.{length-prefix_len}
+use Rattle.relay_words.specs.Keys.{is_keyed}
+use Rattle.relay_words.proofs.TextsLemmas.{front_texts}
+use Rattle.relay_words.proofs.keys.keyed_len.Goals as goal
+
+pub returns-clause-value : goal.returns-clause-value
+returns-clause-value c =
+    count_from_yields_List c.take_while.result _ c.count.ensures.ran
+    (YieldsList-from_take_while _ (λ word. is_keyed (string_bytes word)) (YieldsList-from_slice c.args.words.now cc) c.take_while.ensures.closure c.take_while.ensures.done (λ x b q k. search (rules, tests)))
+    ∙ length-prefix_len (λ word. is_keyed (string_bytes word)) c.args.words.now
+    ∙ front_texts is_keyed c.args.words.now
