@@ -31,6 +31,8 @@ import model
 
 RELAY = os.path.join(HERE, "..", "crates", "relay", "out", "relay")
 ROUNDS = 5
+# With two threads the times of single runs differ more.
+ROUNDS_ON_TWO = 30
 TRANSLATIONS = [("line", "len4"), ("len4", "line"), ("len4", "len4"), ("line", "line")]
 PAYLOADS = [12, 80, 1024, 60000]
 KEYS = [["seg=4096"], ["seg=65536", "pause=1048576"]]
@@ -82,9 +84,9 @@ def digest(words, path):
         return found
 
 
-def least_times(run, programs, path):
+def least_times(run, programs, path, rounds=ROUNDS):
     least = [float("inf")] * len(programs)
-    for _ in range(ROUNDS):
+    for _ in range(rounds):
         for i, words in enumerate(programs):
             least[i] = min(least[i], run(words, path))
     return least
@@ -99,7 +101,7 @@ def pump_beside_copy(size):
             programs = [[RELAY, command, "line", "len4", *keys] for command in ("copy", "pump")]
             assert len({digest(words, path) for words in programs}) == 1
             for way, run in (("file", file_to_null), ("pipes", through_pipes)):
-                copy, pump = least_times(run, programs, path)
+                copy, pump = least_times(run, programs, path, ROUNDS_ON_TWO)
                 print(f"{' '.join(keys):26}{way:8}{copy:8.3f}{pump:8.3f}{pump / copy:13.2f}", flush=True)
 
 
@@ -108,7 +110,8 @@ def drill_beside_copy(count):
         path = os.path.join(folder, "input")
         with open(path, "wb") as file:
             file.write(model.generated("line", 7, count))
-        drill, copy = least_times(file_to_null, [[RELAY, "drill", "7", str(count), "line", "len4"], [RELAY, "copy", "line", "len4"]], path)
+        programs = [[RELAY, "drill", "7", str(count), "line", "len4"], [RELAY, "copy", "line", "len4"]]
+        drill, copy = least_times(file_to_null, programs, path, ROUNDS_ON_TWO)
         print(f"drill {count / drill:.0f} frames a second, copy {count / copy:.0f}, drill / copy in time {drill / copy:.2f}")
 
 
