@@ -1,5 +1,5 @@
 -- What a contract sees of doors: their counts, what is out, and the bytes behind them, where they tell those.
-use Rattle.std.specs.Prelude.{ℕ, ◌≡◌, ◌+◌, ◌-◌, ◌<◌, Bool, true, List, [], ◌∷◌, ◌++◌, drop, slice_get, Option, Some, None, IsSome, IfSome, option_map, if◌then◌else◌}
+use Rattle.std.specs.Prelude.{ℕ, ◌≡◌, ◌+◌, ◌-◌, ◌<◌, Bool, true, false, List, [], ◌∷◌, ◌++◌, drop, slice_get, Option, Some, None, IsSome, IfSome, option_map, if◌then◌else◌}
 use Rattle.std.specs.Str.{bytes_eq}
 use Rattle.edge_core.specs.Device.{SourceState, SinkState, HasRisen}
 use Rattle.edge_core.specs.declared.doors.DoorError.{DoorError}
@@ -30,6 +30,10 @@ pub record DoorsState : Type 0 where
   pub inlets_out : ℕ
   pub outlets_out : ℕ
   pub told : Option Told
+
+-- Doors that tell nothing: nothing was refused or given back, nothing is out, and there are no connections to accept.
+abbrev pub shut : DoorsState
+shut = record { refusals = 0; faults = 0; is_listening = false; inlets_out = 0; outlets_out = 0; told = None }
 
 -- The bytes of a name, where it has some.
 abbrev pub content_of : List ℕ → List Named → Option (List ℕ)

@@ -1,5 +1,5 @@
 -- What a contract sees of doors that open nothing.
-use Rattle.std.specs.Prelude.{false, None}
+use Rattle.std.specs.Prelude.{None}
 use Rattle.edge_core.specs.Doors.{DoorsState}
 use Rattle.edge_core.specs.declared.no_doors.NoDoors.{NoDoors}
 
@@ -13,7 +13,3 @@ no_doors_state doors = record {
   outlets_out = doors.outlets_out;
   told = None;
 }
-
--- Nothing was refused or given back, nothing is out, and there are no connections to accept.
-abbrev pub shut : DoorsState
-shut = record { refusals = 0; faults = 0; is_listening = false; inlets_out = 0; outlets_out = 0; told = None }

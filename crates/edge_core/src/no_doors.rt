@@ -3,8 +3,8 @@
 ghost use Rattle.std.specs.Prelude.{◌≡◌, ◌≢◌, IsErrOf, IsTrue, OnOk, IfOk, IfErr};
 ghost use Rattle.edge_core.specs.Plan.{raised};
 ghost use Rattle.edge_core.specs.Returns.{counted};
-ghost use Rattle.edge_core.specs.Doors.{OpensInlet, OpensOutlet, Listens, Accepts, FailsWith, Refuses, TakesBackInlet, TakesBackOutlet};
-ghost use Rattle.edge_core.specs.NoDoors.{no_doors_state, shut};
+ghost use Rattle.edge_core.specs.Doors.{OpensInlet, OpensOutlet, Listens, Accepts, FailsWith, Refuses, TakesBackInlet, TakesBackOutlet, shut};
+ghost use Rattle.edge_core.specs.NoDoors.{no_doors_state};
 ghost use Rattle.edge_core.specs.WholeSource.{whole_source_state};
 ghost use Rattle.edge_core.specs.MemSink.{mem_sink_state};
 

@@ -24,6 +24,13 @@ impl<R: Read> ReadEdge<R> {
     {
         ReadEdge { inner, faults: 0 }
     }
+
+    /// How many reads have failed; the count stops at `u64::MAX`.
+    pub fn faults(&self) -> u64
+        ensures { result ≡ (reader_state R.remaining self.now).faults }
+    {
+        self.faults
+    }
 }
 
 impl<R: Read> Source for ReadEdge<R> {
@@ -63,6 +70,20 @@ impl<W: Write> WriteEdge<W> {
         ensures { writer_state W.contents result ≡ record { written = W.contents inner; faults = 0 } }
     {
         WriteEdge { inner, faults: 0 }
+    }
+
+    /// How many writes and flushes have failed; the count stops at `u64::MAX`.
+    pub fn faults(&self) -> u64
+        ensures { result ≡ (writer_state W.contents self.now).faults }
+    {
+        self.faults
+    }
+
+    /// The writer itself.
+    pub fn into_inner(self) -> W
+        ensures { W.contents result ≡ (writer_state W.contents self).written }
+    {
+        self.inner
     }
 }
 

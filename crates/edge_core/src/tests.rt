@@ -158,6 +158,7 @@ fn a_reader_passes_on_its_bytes_and_its_errors(rt: HostRuntime) -> Result<(), Fa
         assert_eq!(rt; read_from(&mut source, &mut buf), answer);
         assert!(rt; buf.starts_with(front));
     }
+    assert_eq!(rt; source.faults(), 3);
     Ok(())
 }
 
@@ -172,7 +173,8 @@ fn a_writer_passes_on_its_bytes_and_its_errors(rt: HostRuntime) -> Result<(), Fa
     assert_eq!(rt; write_to(&mut sink, b"ab"), Ok(2));
     assert_eq!(rt; write_to(&mut sink, b"cd"), Err(Failed));
     assert_eq!(rt; flush(&mut sink), Ok(()));
-    assert_eq!(rt; written.as_slice(), b"ab".as_slice());
+    assert_eq!(rt; sink.faults(), 2);
+    assert_eq!(rt; sink.into_inner().inner.as_slice(), b"ab".as_slice());
     Ok(())
 }
 

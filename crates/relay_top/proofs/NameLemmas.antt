@@ -1,31 +1,9 @@
 -- The lines of names.
 use Rattle.std.proofs.Common.{◌≡◌, ◌+◌, ℕ, true, false, eqb, List, ◌∷◌, ◌++◌, length, Option, Some, refl, sym, ap, ◌∙◌, append_assoc, arith, inl, inr}
-use Rattle.std.proofs.KnownBytes.{Appends-trans}
-use Rattle.std.proofs.lemmas.List.{length-append}
 use Rattle.edge_core.specs.Device.{SinkState, Takes, TakesFront}
-use Rattle.edge_core.proofs.DeviceLemmas.{Takes-trans}
+use Rattle.edge_core.proofs.DeviceLemmas.{Takes-trans, front_behind, front_more}
 use Rattle.relay_model.specs.Lines.{IsWritten}
 use Rattle.relay_top.specs.Batch.{Answer, first_failed, name_line, name_lines, status_of_answer}
-
--- a front of a front
-front_more : (a b : SinkState) (xs ys : List ℕ) (count : ℕ) → TakesFront a xs count b → TakesFront a (xs ++ ys) count b
-front_more a b xs ys count f = record {
-  front = f.front;
-  is_front = (f.is_front.0 ++ ys, sym (append_assoc f.front f.is_front.0 ys) ∙ ap (λ t. t ++ ys) f.is_front.1);
-  counted = f.counted;
-  taken = f.taken;
-  risen = f.risen;
-}
-
--- a front behind what was taken
-front_behind : (a b c : SinkState) (xs ys : List ℕ) (count : ℕ) → Takes a xs b → TakesFront b ys count c → TakesFront a (xs ++ ys) (length xs + count) c
-front_behind a b c xs ys count t f = record {
-  front = xs ++ f.front;
-  is_front = (f.is_front.0, append_assoc xs f.front f.is_front.0 ∙ ap (λ t. xs ++ t) f.is_front.1);
-  counted = omega (arith, f.counted, length-append xs f.front);
-  taken = Appends-trans a.written b.written c.written xs f.front t.taken f.taken;
-  risen = rw (← t.unfailed) f.risen;
-}
 
 -- what is broken off is a front of the line
 pub broken_line : (a b : SinkState) (xs ys : List ℕ) (count : ℕ) → TakesFront a xs count b → IsWritten (xs ++ ys) a b
