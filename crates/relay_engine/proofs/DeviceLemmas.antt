@@ -9,26 +9,6 @@ use Rattle.edge_core.specs.Device.{SinkState, Takes, TakesFront}
 pub takes_nothing : (a b : SinkState) → b ≡ a → Takes a [] b
 takes_nothing a b e = rw e (record { taken = Appends-nil a.written; unfailed = refl })
 
--- a front of a front
-pub front_more : (a b : SinkState) (xs ys : List ℕ) (count : ℕ) → TakesFront a xs count b → TakesFront a (xs ++ ys) count b
-front_more a b xs ys count f = record {
-  front = f.front;
-  is_front = (f.is_front.0 ++ ys, sym (append_assoc f.front f.is_front.0 ys) ∙ ap (λ t. t ++ ys) f.is_front.1);
-  counted = f.counted;
-  taken = f.taken;
-  risen = f.risen;
-}
-
--- a front behind what was taken
-pub front_behind : (a b c : SinkState) (xs ys : List ℕ) (count : ℕ) → Takes a xs b → TakesFront b ys count c → TakesFront a (xs ++ ys) (length xs + count) c
-front_behind a b c xs ys count t f = record {
-  front = xs ++ f.front;
-  is_front = (f.is_front.0, append_assoc xs f.front f.is_front.0 ∙ ap (λ t. xs ++ t) f.is_front.1);
-  counted = omega (arith, f.counted, length-append xs f.front);
-  taken = Appends-trans a.written b.written c.written xs f.front t.taken f.taken;
-  risen = rw (← t.unfailed) f.risen;
-}
-
 -- a front is no longer than the whole
 pub front_len : (a b : SinkState) (xs : List ℕ) (count : ℕ) → TakesFront a xs count b → count ≤ length xs
 front_len a b xs count f = rw (← f.is_front.1) (omega (arith, f.counted, length-append f.front f.is_front.0))

@@ -4,8 +4,8 @@ use Rattle.std.proofs.lemmas.Grind.{flat_map-append}
 use Rattle.std.proofs.lemmas.List.{append-nil, take-append-drop, take_more}
 use denote.Bor.{Bor}
 use Rattle.edge_core.specs.Device.{SinkState, Takes, TakesFront}
+use Rattle.edge_core.proofs.DeviceLemmas.{front_behind, front_more}
 use Rattle.relay_engine.specs.Tell.{pieces_text}
-use Rattle.relay_engine.proofs.DeviceLemmas.{front_more, front_behind}
 
 abbrev now_of : Bor (List ℕ) → List ℕ
 now_of piece = piece.now
