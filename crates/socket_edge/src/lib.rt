@@ -1,0 +1,10 @@
+//! Files and TCP streams as devices, and doors that open them.
+#![tactic(auto)]
+
+mod doors;
+mod endpoint;
+#[cfg(test)]
+mod tests;
+
+pub use doors::RealDoors;
+pub use endpoint::Endpoint;

@@ -1,0 +1,85 @@
+//! Files in the system's folder for temporary ones, and connections over loopback.
+
+use crate::RealDoors;
+use edge_core::{DoorError, Doors, Sink, Source};
+use std::net::TcpListener;
+use std::test::Fail;
+use std::{env, fs, io, process};
+
+/// The path of a temporary file that no other program uses.
+fn temporary(rt: &HostRuntime, name: &str) -> io::Result<String> {
+    let folder = env::temp_dir(rt)?;
+    let number = process::id(rt.process());
+    Ok(format!(in rt.alloc(); "{}/{name} {number}", folder.as_str())?)
+}
+
+/// An address of this machine at which nobody listens.
+fn free_address(rt: &HostRuntime) -> io::Result<String> {
+    let port = TcpListener::bind(rt, "127.0.0.1:0")?.local_addr()?.port();
+    Ok(format!(in rt.alloc(); "127.0.0.1:{port}")?)
+}
+
+#[test]
+fn a_name_has_its_file_and_an_output_that_is_made_anew(rt: HostRuntime) -> Result<(), Fail> {
+    let alloc = rt.alloc();
+    let name = temporary(&rt, "a name")?;
+    let output = format!(in alloc; "{name}.out")?;
+    fs::write(&rt, name.as_str(), "abc")?;
+    fs::write(&rt, output.as_str(), "more than is to come")?;
+    let mut doors = RealDoors::new(rt);
+    let mut inlet = doors.inlet(alloc, name.as_str())?;
+    let mut outlet = doors.outlet(alloc, name.as_str())?;
+    let mut buf = [0; 8];
+    assert_eq!(rt; inlet.read(&mut buf), Ok(3));
+    assert!(rt; buf.starts_with(b"abc"));
+    assert_eq!(rt; inlet.read(&mut buf), Ok(0));
+    assert_eq!(rt; outlet.write(b"xy"), Ok(2));
+    doors.give_inlet(inlet);
+    doors.give_outlet(outlet);
+    assert_eq!(rt;
+        fs::read(&rt, output.as_str())?.as_slice(),
+        b"xy".as_slice()
+    );
+    fs::remove_file(&rt, name.as_str())?;
+    fs::remove_file(&rt, output.as_str())?;
+    Ok(())
+}
+
+#[test]
+fn a_peer_may_connect_before_it_is_accepted_and_sees_the_end(rt: HostRuntime) -> Result<(), Fail> {
+    let alloc = rt.alloc();
+    let address = free_address(&rt)?;
+    let mut doors = RealDoors::new(rt);
+    doors.listen(alloc, address.as_str())?;
+    let mut outlet = doors.connect(alloc, address.as_str())?;
+    let mut inlet = doors.accept(alloc)?;
+    assert_eq!(rt; outlet.write(b"hi"), Ok(2));
+    doors.give_outlet(outlet);
+    let mut buf = [0; 8];
+    assert_eq!(rt; inlet.read(&mut buf), Ok(2));
+    assert_eq!(rt; inlet.read(&mut buf), Ok(0));
+    doors.give_inlet(inlet);
+    Ok(())
+}
+
+#[test]
+fn what_the_system_refuses_is_a_failed_opening(rt: HostRuntime) -> Result<(), Fail> {
+    let alloc = rt.alloc();
+    let address = free_address(&rt)?;
+    let missing = temporary(&rt, "missing/name")?;
+    let mut doors = RealDoors::new(rt);
+    assert_eq!(rt;
+        doors.inlet(alloc, missing.as_str()).err(),
+        Some(DoorError::Failed)
+    );
+    assert_eq!(rt;
+        doors.outlet(alloc, missing.as_str()).err(),
+        Some(DoorError::Failed)
+    );
+    assert_eq!(rt;
+        doors.connect(alloc, address.as_str()).err(),
+        Some(DoorError::Failed)
+    );
+    assert_eq!(rt; doors.listen(alloc, "nowhere"), Err(DoorError::Failed));
+    Ok(())
+}
