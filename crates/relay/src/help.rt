@@ -12,14 +12,14 @@ usage: relay copy IN OUT [KEY=BYTES ..]
 
 Reads frames from standard input, and writes their payloads to standard output as frames of another kind: `copy` on one
 thread, and `pump` on two, of which one reads while the other writes. `drill` makes COUNT frames from the number SEED, relays
-them into memory on two threads, and prints how many frames and bytes went in and out. `batch` relays the input of each NAME to
-an output of its own, at most WORKERS of them at once, and prints a line for each: its name, its status and how many frames were
-written. This version opens no names yet: `batch` ends with status 8.
+them into memory on two threads, and prints how many frames and bytes went in and out. `batch` relays the file of each NAME to
+the file NAME.out, which is made anew, at most WORKERS of them at once, and prints a line for each: its name, its status and how
+many frames were written.
 
 SEED     0 to 4294967295
 COUNT    0 to 1000000
 WORKERS  1 to 16
-NAME     1 to 255 bytes that don't end in .out; at most 256 of them, all different
+NAME     the path of a file, 1 to 255 bytes that don't end in .out; at most 256 of them, all different
 
 IN and OUT
   len4    the payload's length in 4 bytes, most significant first, and then the payload
@@ -38,9 +38,9 @@ status, with a line on standard error where it isn't 0
   1  the words are no command; nothing is read or written
   2  a frame is too big, or OUT can't spell its payload; what came before it is written, and nothing after it
   3  the input ends within a frame; what came before that is written
-  4  standard input can't be read; the whole frames that were read are written
-  5  standard output can't be written
+  4  standard input, or the file of a name, can't be read; the whole frames that were read are written
+  5  standard output, or the output of a name, can't be written
   6  there is no memory; nothing is read or written
   7  the input has more than 2^40 bytes; the whole frames of the first 2^40 are written
-  8  the input or the output of a name can't be opened; nothing is read or written
+  8  the file of a name, or its output, can't be opened; nothing is relayed, but outputs of names up to it may be made anew
 ";

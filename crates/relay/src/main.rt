@@ -1,11 +1,12 @@
-//! The program `relay`: its words, its standard streams and its status.
+//! The program `relay`: its words, its standard streams, its files and its status.
 #![tactic(auto)]
 
 mod help;
 
-use edge_core::{NoDoors, ReadEdge, Sink, Source, WriteEdge, write_all};
+use edge_core::{Doors, ReadEdge, Sink, Source, WriteEdge, write_all};
 use help::{HELP, VERSION};
 use relay_top::relay_main;
+use socket_edge::RealDoors;
 use std::alloc::Global;
 use std::process::ExitCode;
 use std::sync::Wait;
@@ -28,6 +29,7 @@ fn main(rt: HostRuntime) -> ExitCode {
     let mut input = ReadEdge::new(rt.stdin());
     let mut output = WriteEdge::new(rt.stdout());
     let mut faults = WriteEdge::new(rt.stderr());
+    let mut doors = RealDoors::new(rt);
     let status = match words(&rt) {
         Ok(words) => run(
             &rt,
@@ -36,6 +38,7 @@ fn main(rt: HostRuntime) -> ExitCode {
             &mut input,
             &mut output,
             &mut faults,
+            &mut doors,
         ),
         Err(error) if error.kind() == io::ErrorKind::OutOfMemory => {
             tell(&mut faults, "out of memory\n", OUT_OF_MEMORY)
@@ -46,13 +49,14 @@ fn main(rt: HostRuntime) -> ExitCode {
 }
 
 /// Does what the words ask for, and answers the status.
-fn run<R: Wait + Threads + Sync, S: Source + Send, K: Sink + Send, E: Sink>(
+fn run<R: Wait + Threads + Sync, S: Source + Send, K: Sink + Send, E: Sink, D: Doors>(
     rt: &R,
     alloc: Global,
     words: &[String],
     input: &mut S,
     output: &mut K,
     faults: &mut E,
+    doors: &mut D,
 ) -> u8 {
     if words.len() >= TOO_MANY {
         return tell(faults, "usage: too many words\n", USAGE);
@@ -60,7 +64,7 @@ fn run<R: Wait + Threads + Sync, S: Source + Send, K: Sink + Send, E: Sink>(
     match only_word(words) {
         Some("--help") => print(output, HELP),
         Some("--version") => print(output, VERSION),
-        _ => relay_main(rt, alloc, words, input, output, faults, &mut NoDoors::new()),
+        _ => relay_main(rt, alloc, words, input, output, faults, doors),
     }
 }
 
