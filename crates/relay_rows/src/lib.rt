@@ -8,4 +8,6 @@ mod case;
 #[cfg(test)]
 mod drills;
 #[cfg(test)]
+mod real_doors;
+#[cfg(test)]
 mod relays;
