@@ -39,16 +39,35 @@ def cut(framing, greatest, data):
     return frames, 0, ""
 
 
-def copy(source, sink, greatest, data):
-    """What is written for a whole input, the status and the line on standard error."""
+def translated(source, sink, greatest, data):
+    """The frames that are written for a whole input, the status and the line on standard error."""
     frames, status, line = cut(source, greatest, data)
-    out = b""
+    written = []
     for place, payload in frames:
         frame = spell(sink, payload)
         if isinstance(frame, int):
-            return out, 2, f"bad frame at {place}: byte {frame}\n".encode()
-        out += frame
-    return out, status, line.encode()
+            return written, 2, f"bad frame at {place}: byte {frame}\n".encode()
+        written.append(frame)
+    return written, status, line.encode()
+
+
+def copy(source, sink, greatest, data):
+    """What is written for a whole input, the status and the line on standard error."""
+    written, status, line = translated(source, sink, greatest, data)
+    return b"".join(written), status, line
+
+
+def batch(source, sink, greatest, inputs):
+    """Of names with their inputs: what is written for each, what standard output gets, the status and the line on standard
+    error."""
+    outputs, lines, end = {}, [], (0, b"")
+    for name, data in inputs.items():
+        written, status, line = translated(source, sink, greatest, data)
+        outputs[name] = b"".join(written)
+        lines.append(f"{name} {status} {len(written)}\n".encode())
+        if end[0] == 0 and status != 0:
+            end = status, f"{name}: ".encode() + line
+    return outputs, b"".join(lines), *end
 
 
 def generated(framing, seed, count):
@@ -58,3 +77,17 @@ def generated(framing, seed, count):
         length = (seed + 13 * number) % 96
         frames.append(spell(framing, bytes(32 + (seed + number + index) % 95 for index in range(length))))
     return b"".join(frames)
+
+
+def some_frames(framing, greatest, rng):
+    """Mostly good frames, now and then one that is too big, has a line feed or is broken off."""
+    data = b""
+    for _ in range(rng.randrange(8)):
+        edges = [0, 1, 2, 80, 4095, 65535, greatest, greatest + 1]
+        size = rng.choice(edges) if rng.random() < 0.3 else rng.randrange(40)
+        byte = rng.choice(b"\r ab\xff" if rng.random() < 0.9 else b"\n")
+        frame = spell(framing, bytes([byte]) * size)
+        data += frame if isinstance(frame, bytes) else b""
+    if rng.random() < 0.3:
+        data = data[:rng.randrange(len(data) + 1)]
+    return data

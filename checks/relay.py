@@ -3,90 +3,22 @@
 usage: relay.py PROGRAM
 """
 
-import atexit
 import itertools
 import os
 import random
 import resource
 import select
-import signal
 import subprocess
-import sys
 import tempfile
-import threading
 
 import model
+from running import SECONDS, check, end, feed, finish, run, start
 
-PROGRAM = sys.argv[1]
 FRAMINGS = ["len4", "len2", "line"]
 USUAL_MAX = 65536
-SECONDS = 30
 COMMANDS = ["copy", "pump"]
 COPY = ["copy", "len4", "line"]
 FRAME = b"\0\0\0\2hi"
-failures = []
-passed = 0
-started = []
-
-
-def too_late(number, frame):
-    raise TimeoutError(f"no end within {SECONDS} seconds: {started[-1].args}")
-
-
-def end_what_is_left():
-    for program in started:
-        if program.poll() is None:
-            program.kill()
-            program.wait()
-
-
-signal.signal(signal.SIGALRM, too_late)
-atexit.register(end_what_is_left)
-
-
-def check(name, got, wanted):
-    global passed
-    if got == wanted:
-        passed += 1
-    else:
-        failures.append(f"{name}: got {got!r:.300}, wanted {wanted!r:.300}")
-
-
-def start(words, **streams):
-    """A program that runs, for SECONDS until the next one is started."""
-    program = subprocess.Popen([PROGRAM, *words], **{"stderr": subprocess.PIPE, **streams})
-    started.append(program)
-    signal.alarm(SECONDS)
-    return program
-
-
-def end(program):
-    """The status and the line of a program that no longer waits for input."""
-    with program.stderr:
-        line = program.stderr.read()
-    return program.wait(timeout=SECONDS), line
-
-
-def feed(pipe, pieces):
-    try:
-        for piece in pieces:
-            pipe.write(piece)
-            pipe.flush()
-        pipe.close()
-    except BrokenPipeError:
-        pass
-
-
-def run(words, pieces):
-    """Standard output, status and line of a run that is fed these pieces through a pipe."""
-    program = start(words, stdin=subprocess.PIPE, stdout=subprocess.PIPE)
-    feeder = threading.Thread(target=feed, args=(program.stdin, pieces))
-    feeder.start()
-    with program.stdout:
-        output = program.stdout.read()
-    status, line = end(program)
-    feeder.join()
-    return output, status, line
 
 
 def pieces_of(data, rng):
@@ -96,20 +28,6 @@ def pieces_of(data, rng):
         pieces.append(data[at:at + size])
         at += size
     return pieces
-
-
-def some_frames(framing, greatest, rng):
-    """Mostly good frames, now and then one that is too big, has a line feed or is broken off."""
-    data = b""
-    for _ in range(rng.randrange(8)):
-        edges = [0, 1, 2, 80, 4095, 65535, greatest, greatest + 1]
-        size = rng.choice(edges) if rng.random() < 0.3 else rng.randrange(40)
-        byte = rng.choice(b"\r ab\xff" if rng.random() < 0.9 else b"\n")
-        frame = model.spell(framing, bytes([byte]) * size)
-        data += frame if isinstance(frame, bytes) else b""
-    if rng.random() < 0.3:
-        data = data[:rng.randrange(len(data) + 1)]
-    return data
 
 
 def named_cases():
@@ -138,7 +56,7 @@ def random_cases(count):
             greatest = rng.choice([USUAL_MAX, USUAL_MAX, 0, 1, 39, 200000])
             keys = [] if greatest == USUAL_MAX else [f"max={greatest}"]
             keys += rng.choice([[], ["seg=64"], ["seg=65536"], ["pause=1"], ["pause=0", "seg=100"], ["resume=5", "pause=9", "seg=64"]])
-            data = some_frames(source, greatest, rng)
+            data = model.some_frames(source, greatest, rng)
             wanted = model.copy(source, sink, greatest, data)
             pieces = pieces_of(data, rng)
             for command in COMMANDS:
@@ -178,7 +96,6 @@ def drills():
     lines = model.generated("line", 7, 100000)
     output, status, line = run(["copy", "line", "len4"], [lines])
     check("copy of a generated input", (len(lines), len(output), status, line), (4849904, 5149904, 0, b""))
-    check("batch opens nothing yet", run(["batch", "2", "len4", "line", "a", "b"], []), (b"", 8, b"door fault at word 4\n"))
     with open("/dev/full", "wb") as full:
         check("drill on a full device", end(start(["drill", *"2 1 line len4".split()], stdout=full))[0], 5)
 
@@ -267,8 +184,4 @@ for each in COMMANDS:
     passed_on_at_once(each)
 faults_that_cannot_be_told()
 want_of_memory()
-signal.alarm(0)
-for failure in failures:
-    print("FAILED", failure)
-print(f"{passed} passed, {len(failures)} failed")
-sys.exit(1 if failures else 0)
+finish()

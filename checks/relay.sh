@@ -9,6 +9,7 @@ fi
 program=crates/relay/out/relay
 (cd crates/relay && rt run -- --version)
 python3 -B checks/relay.py "$PWD/$program"
+python3 -B checks/batch.py "$PWD/$program"
 python3 -B checks/memory.py "$PWD/$program"
 python3 -B checks/pump.py "$PWD/$program"
 python3 -B checks/long_line.py "$PWD/$program"
