@@ -156,6 +156,11 @@ def files_that_cannot_be_opened():
         check("an output without permission", closed, (b"", 8, b"door fault at word 5\n"))
 
 
+def small_files_only():
+    """No file takes more bytes than this. A write that would pass it fails, as on a full disk, since the signal is ignored."""
+    resource.setrlimit(resource.RLIMIT_FSIZE, (15101, 15101))
+
+
 def files_that_fail():
     """A fault of one name, of its own kind each, ends no other."""
     data = FRAME * 2 + b"\0\1\0\1" + FRAME
@@ -178,6 +183,10 @@ def files_that_fail():
             check(f"{name}: outputs", outputs_of(folder, outputs), outputs)
         several = batch(folder, "3", ["len4", "line"], ["last", "short", "bad", "full"])
         check("several faults", several, (b"last 0 2\nshort 3 1\nbad 2 2\nfull 5 0\n", 3, b"short: truncated at 6\n"))
+        write_files(folder, {"long": b"\0\0\0\x63" + b"x" * 99 + FRAME * 9000})
+        part = batch(folder, "1", ["len4", "line"], ["long"], restore_signals=False, preexec_fn=small_files_only)
+        check("a disk that is full behind some frames", part, (b"long 5 5001\n", 5, b"long: write fault after 15101\n"))
+        check("what was written before", read_output(folder, "long"), b"x" * 99 + b"\n" + b"hi\n" * 5000 + b"h")
         with open("/dev/full", "wb") as full:
             program = start(["batch", "1", "len4", "line", "good"], cwd=folder, stdout=full)
             check("lines to a full device", end(program), (5, b"write fault after 0\n"))

@@ -39,8 +39,8 @@ status, with a line on standard error where it isn't 0
   2  a frame is too big, or OUT can't spell its payload; what came before it is written, and nothing after it
   3  the input ends within a frame; what came before that is written
   4  standard input, or the file of a name, can't be read; the whole frames that were read are written
-  5  standard output, or the output of a name, can't be written
+  5  standard output, or the output of a name, can't be written; what was written before stays, and may end within a frame
   6  there is no memory; nothing is read or written
   7  the input has more than 2^40 bytes; the whole frames of the first 2^40 are written
-  8  the file of a name, or its output, can't be opened; nothing is relayed, but outputs of names up to it may be made anew
+  8  the file of a name, or its output, can't be opened; nothing is relayed, and the outputs of the names before it are empty
 ";
