@@ -16,6 +16,11 @@ seconds, and their ratio.
 
 measures `relay drill`, which makes that many frames and relays them into memory, beside `relay copy` of the same bytes from a
 file to the null device: the frames a second of each.
+
+    python3 bench/copy.py batch [MEGABYTES]
+
+measures `relay batch` with 4 workers beside the same with 1, on 8 files of that many megabytes, to files and to the null device:
+the least time of each in seconds, and the time of one worker over that of four.
 """
 
 import hashlib
@@ -36,6 +41,7 @@ ROUNDS_ON_TWO = 30
 TRANSLATIONS = [("line", "len4"), ("len4", "line"), ("len4", "len4"), ("line", "line")]
 PAYLOADS = [12, 80, 1024, 60000]
 KEYS = [["seg=4096"], ["seg=65536", "pause=1048576"]]
+FILES = 8
 
 
 def build(folder):
@@ -115,7 +121,41 @@ def drill_beside_copy(count):
         print(f"drill {count / drill:.0f} frames a second, copy {count / copy:.0f}, drill / copy in time {drill / copy:.2f}")
 
 
+def batch_time(words, folder):
+    """The time of a run whose outputs are new files, where they aren't links."""
+    for file in os.scandir(folder):
+        if file.name.endswith(".out") and not file.is_symlink():
+            os.remove(file)
+    start = time.perf_counter()
+    subprocess.run(words, cwd=folder, stdout=subprocess.DEVNULL, check=True)
+    return time.perf_counter() - start
+
+
+def link_outputs(folder, names):
+    for name in names:
+        output = os.path.join(folder, name + ".out")
+        os.remove(output)
+        os.symlink(os.devnull, output)
+
+
+def batch_by_workers(size):
+    names = [f"input{number}" for number in range(FILES)]
+    programs = [[os.path.abspath(RELAY), "batch", workers, "line", "len4", *names] for workers in ("1", "4")]
+    with tempfile.TemporaryDirectory() as folder:
+        for name in names:
+            write_input(os.path.join(folder, name), "line", 80, size)
+        print(f"{'outputs':16}{'1 worker':>10}{'4 workers':>11}{'1 / 4':>8}")
+        for outputs in ("files", "the null device"):
+            if outputs != "files":
+                link_outputs(folder, names)
+            one, four = least_times(batch_time, programs, folder)
+            print(f"{outputs:16}{one:10.3f}{four:11.3f}{one / four:8.2f}", flush=True)
+
+
 def main():
+    if sys.argv[1:2] == ["batch"]:
+        batch_by_workers(int(sys.argv[2] if len(sys.argv) > 2 else "50") * 1_000_000)
+        return
     if sys.argv[1:2] == ["drill"]:
         drill_beside_copy(int(sys.argv[2] if len(sys.argv) > 2 else "1000000"))
         return
