@@ -62,10 +62,25 @@ fn a_peer_may_connect_before_it_is_accepted_and_sees_the_end(rt: HostRuntime) ->
     Ok(())
 }
 
+// Of both sides of a connection, the one that closes first keeps its port for a while.
+#[test]
+fn a_port_that_was_just_left_can_be_taken_again(rt: HostRuntime) -> Result<(), Fail> {
+    let alloc = rt.alloc();
+    let address = free_address(&rt)?;
+    for _ in 0..2 {
+        let mut doors = RealDoors::new(rt);
+        doors.listen(alloc, address.as_str())?;
+        let outlet = doors.connect(alloc, address.as_str())?;
+        let inlet = doors.accept(alloc)?;
+        doors.give_inlet(inlet);
+        doors.give_outlet(outlet);
+    }
+    Ok(())
+}
+
 #[test]
 fn what_the_system_refuses_is_a_failed_opening(rt: HostRuntime) -> Result<(), Fail> {
     let alloc = rt.alloc();
-    let address = free_address(&rt)?;
     let missing = temporary(&rt, "missing/name")?;
     let mut doors = RealDoors::new(rt);
     assert_eq!(rt;
@@ -77,7 +92,7 @@ fn what_the_system_refuses_is_a_failed_opening(rt: HostRuntime) -> Result<(), Fa
         Some(DoorError::Failed)
     );
     assert_eq!(rt;
-        doors.connect(alloc, address.as_str()).err(),
+        doors.connect(alloc, "127.0.0.1:1").err(),
         Some(DoorError::Failed)
     );
     assert_eq!(rt; doors.listen(alloc, "nowhere"), Err(DoorError::Failed));
