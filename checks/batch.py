@@ -13,7 +13,7 @@ import subprocess
 import tempfile
 
 import model
-from running import PROGRAM, check, end, finish, run, start
+from running import PROGRAM, SECONDS, check, end, finish, run, start
 
 WORKERS = ["1", "2", "4", "16"]
 USUAL_MAX = 65536
@@ -202,7 +202,8 @@ def traced(folder, words):
     if subprocess.run(["strace", "-f", "-o", trace, "true"], stderr=subprocess.DEVNULL).returncode != 0:
         print("skipped: strace may not trace")
         return None
-    subprocess.run(["strace", "-f", "-o", trace, PROGRAM, *words], cwd=folder, stdout=subprocess.DEVNULL, check=True)
+    words = ["strace", "-f", "-o", trace, PROGRAM, *words]
+    subprocess.run(words, cwd=folder, stdout=subprocess.DEVNULL, check=True, timeout=SECONDS)
     with open(trace) as calls:
         return calls.read().splitlines()
 
