@@ -1,9 +1,13 @@
 -- Masks of vectors, as marks.
-use Rattle.std.proofs.Common.{◌≡◌, ◌↔◌, ℕ, ◌+◌, ◌-◌, ◌%◌, ◌^◌, ◌<◌, ◌≤◌, Bool, true, false, not, cond, eqb, leb, ◌&&◌, ◌||◌, List, [], ◌∷◌, length, get_or, map, replicate, take, drop, refl, sym, ap, subst, ◌∙◌, arith, w8, bit_and, bit_or, bit_xor}
+use Rattle.std.proofs.Common.{◌≡◌, ◌++◌, ◌↔◌, ℕ, ◌+◌, ◌-◌, ◌%◌, ◌^◌, ◌<◌, ◌≤◌, Bool, true, false, not, cond, eqb, leb, ◌&&◌, ◌||◌, List, [], ◌∷◌, length, get_or, map, replicate, take, drop, refl, sym, ap, subst, ◌∙◌, arith, w8, bit_and, bit_or, bit_xor}
 use Rattle.std.specs.Int.{bit_at}
 use Rattle.std.specs.Simd.Lanes.{chunk, mask_l, sel_l, top, zip2}
-use Rattle.std.proofs.lemmas.List.{get_or-map, length-map, take_rest}
-use Rattle.std.proofs.lemmas.Simd.{length-chunk, get_or-chunk, length-zip2, get_or-zip2, map-map, tops_compared, zip2_splat, zip2_splat_left, zip2-map, zip2_of_maps, splat_is_map, mask_l-lt, mask_l-mod, bit_mask_l}
+use Rattle.std.specs.List.{count_by}
+use Rattle.std.specs.Prelude.{count_ones}
+use Rattle.std.proofs.lemmas.List.{get_or-map, length-map, take_at, take_rest}
+use Rattle.std.proofs.lemmas.List.Sums.{sum_by-append}
+use Rattle.std.proofs.Math.Seq.{take-add}
+use Rattle.std.proofs.lemmas.Simd.{length-chunk, get_or-chunk, length-zip2, get_or-zip2, map-map, tops_compared, zip2_splat, zip2_splat_left, zip2-map, zip2_of_maps, splat_is_map, mask_l-lt, mask_l-mod, bit_mask_l, ones-mask_l, chunk-drop}
 use Rattle.byte_kernels.specs.Marks.{Marks, all_bits_where}
 
 tells : (b : Bool) → (cond {A = ℕ} b 1 0 ≡ 1) ↔ (b ≡ true)
@@ -129,3 +133,24 @@ marks_of_difference n from a b small room_a room_b =
     (marks_of_mask (zip2 differ load_a load_b) long (λ k lt.
     get_or-zip2 differ load_a load_b k 0 0 false (omega arith) (omega arith)
     ∙ (λ i. differ (loaded n from a room_a k lt i) (loaded n from b room_b k lt i))))
+
+-- ---- how many bytes of a load meet a test
+
+loaded_is : (from : ℕ) (bytes : List ℕ) → from + 16 ≤ length bytes → chunk from 16 bytes ≡ take 16 (drop from bytes)
+loaded_is from bytes room = sym (ap (take 16) (chunk-drop from 16 bytes) ∙ take_at (chunk from 16 bytes) (drop (from + 16) bytes) 16 (length-chunk from 16 bytes room))
+
+pub count_of_load : (meets : ℕ → Bool) (from : ℕ) (bytes lanes : List ℕ) → from + 16 ≤ length bytes → lanes ≡ all_bits_where meets (chunk from 16 bytes)
+    → count_ones (mask_l (map (top 7) (zip2 (λ a b. cond (leb a b) 255 0) (replicate 16 128) lanes)) % 2 ^ 64) ≡ count_by meets (take 16 (drop from bytes))
+count_of_load meets from bytes lanes room is =
+    let load = chunk from 16 bytes in
+    ap count_ones (marks_of_lanes meets load lanes (length-chunk from 16 bytes room) is) ∙ ones-mask_l meets load ∙ ap (count_by meets) (loaded_is from bytes room)
+
+-- a count of bytes, part by part
+pub count_parts : (meets : ℕ → Bool) (xs ys : List ℕ) → count_by meets (xs ++ ys) ≡ count_by meets xs + count_by meets ys
+count_parts meets xs ys = sum_by-append _ xs ys
+
+pub count_more : (meets : ℕ → Bool) (n k : ℕ) (xs : List ℕ) → count_by meets (take (n + k) xs) ≡ count_by meets (take n xs) + count_by meets (take k (drop n xs))
+count_more meets n k xs = ap (count_by meets) (take-add n k xs) ∙ count_parts meets (take n xs) (take k (drop n xs))
+
+pub counted_more : (meets : ℕ → Bool) (n k count more : ℕ) (xs : List ℕ) → count ≡ count_by meets (take n xs) → more ≡ count_by meets (take k (drop n xs)) → count + more ≡ count_by meets (take (n + k) xs)
+counted_more meets n k count more xs so_far then = omega (arith, so_far, then, count_more meets n k xs)

@@ -16,13 +16,13 @@ module _ {test : ℕ → Bool} {from count marks : ℕ} (group : Marks test from
   ]
 
   -- a place whose bit isn't set doesn't meet the test
-  unset_fails : (place : ℕ) → from ≤ place → place < from + count → bit_at marks (place - from) ≡ 0 → ¬ (test place ≡ true)
+  pub unset_fails : (place : ℕ) → from ≤ place → place < from + count → bit_at marks (place - from) ≡ 0 → ¬ (test place ≡ true)
   unset_fails place low high unset met =
       let same : place ≡ from + (place - from) = omega arith in
       let set = (group.each (place - from) (omega arith)).1 (subst (λ p. test p ≡ true) same met) in
       omega arith
 
-  bit_met : (k : ℕ) → bit_at marks k ≡ 1 → test (from + k) ≡ true
+  pub bit_met : (k : ℕ) → bit_at marks k ≡ 1 → test (from + k) ≡ true
   bit_met k set = (group.each k (set_within k set)).0 set
 
   module _ (none : marks ≡ 0) where

@@ -1,7 +1,7 @@
 //! Worked cases of the definitions, computed by the check. These functions do nothing.
 
 ghost use Rattle.std.specs.Prelude.{◌≡◌, ◌==◌, [], ◌∷◌, None, Some, position};
-ghost use Rattle.std.specs.List.{common_prefix_len};
+ghost use Rattle.std.specs.List.{common_prefix_len, count_by};
 ghost use Rattle.byte_kernels.specs.Scan.{last_position};
 
 /// Where a byte stands in a list, from its front and from its back.
@@ -11,6 +11,12 @@ pub fn scan_cases()
     ensures none_first { position (λ byte. byte == 10) (97 ∷ 98 ∷ []) ≡ None }
     ensures none_last { last_position (λ byte. byte == 10) (97 ∷ 98 ∷ []) ≡ None }
     ensures nothing { last_position (λ byte. byte == 10) [] ≡ None }
+{}
+
+/// How many bytes of a list are a given one.
+pub fn count_cases()
+    ensures two { count_by (λ byte. byte == 10) (97 ∷ 10 ∷ 98 ∷ 10 ∷ 99 ∷ []) ≡ 2 }
+    ensures none { count_by (λ byte. byte == 10) (97 ∷ 98 ∷ []) ≡ 0 }
 {}
 
 /// How far two lists begin alike.

@@ -1,4 +1,5 @@
-//! Sets of bytes, and searches of slices: for a byte of a set or a range, and for the first difference.
+//! Sets of bytes, and searches of slices: for a byte of a set or a range, for one byte near the front, and for the first
+//! difference.
 #![tactic(auto)]
 
 mod byte_set;
@@ -16,7 +17,9 @@ mod table;
 mod tests;
 
 pub use byte_set::ByteSet;
-pub use cases::{front_cases, scan_cases};
+pub use cases::{count_cases, front_cases, scan_cases};
 pub use front::common_front;
 pub use index::{index_of_any, index_of_any_except, last_index_of_any};
+pub use marks::lowest;
 pub use range::{index_in_range, index_not_in_range};
+pub use search::{count_of, index_near, marks_near, marks_near_64};

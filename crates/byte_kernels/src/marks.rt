@@ -5,7 +5,7 @@ ghost use Rattle.std.specs.Int.{bit_at};
 
 /// The lowest bit that is set.
 #[inline(always)]
-pub(crate) fn lowest(marks: u64) -> usize
+pub fn lowest(marks: u64) -> usize
     requires { marks ≢ 0 }
     ensures bound { result < 64 }
     ensures set { bit_at marks result ≡ 1 }

@@ -127,8 +127,9 @@ fn last_by_1<P: Places>(places: &P, end: usize) -> Option<usize>
     None
 }
 
+/// Which of 64 places meet the test.
 #[inline(always)]
-fn group_of_64<P: Places>(places: &P, from: usize) -> u64
+pub(crate) fn group_of_64<P: Places>(places: &P, from: usize) -> u64
     requires within { from + 64 ≤ P.count places.now }
     requires fits { from + 64 < 18446744073709551616 }
     ensures { Marks (P.meets places.now) from 64 result }

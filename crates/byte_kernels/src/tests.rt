@@ -59,6 +59,8 @@ fn check_hit_at_end(rt: &impl Abort, bytes: &[u8]) {
     assert_eq!(rt; index_in_range(bytes, 122, 255), end);
     assert_eq!(rt; index_not_in_range(bytes, 97, 121), end);
     assert_eq!(rt; index_not_in_range(bytes, 0, 255), None);
+    assert_eq!(rt; index_near(bytes, b'z'), end);
+    assert_eq!(rt; count_of(bytes, b'a'), bytes.len().saturating_sub(1));
     assert_eq!(rt; common_front(bytes, bytes), bytes.len());
 }
 
@@ -72,6 +74,18 @@ fn a_hit_at_the_end_is_found_at_each_length(rt: HostRuntime) -> Result<(), Fail>
         check_hit_at_end(&rt, &bytes);
     }
     Ok(())
+}
+
+#[test]
+fn marks_tell_where_a_byte_stands(rt: HostRuntime) {
+    let hay = b"_\nabc\ndefghijklmn\n";
+    assert_eq!(rt; marks_near(hay, 1, b'\n'), 0b10001);
+    assert_eq!(rt; marks_near(hay, 2, b'\n'), 0b1000_0000_0000_1000);
+    let long = [b'a'; 70];
+    assert_eq!(rt; marks_near_64(&long, 6, b'a'), u64::MAX);
+    assert_eq!(rt; marks_near_64(&long, 0, b'b'), 0);
+    assert_eq!(rt; lowest(0b1000_1000), 3);
+    assert_eq!(rt; lowest(1 << 63), 63);
 }
 
 // All searches of bytes, as the plain loops make them.
