@@ -1,0 +1,102 @@
+-- One frame behind the other.
+use Rattle.std.proofs.Common.{◌≡◌, ◌<◌, ◌≤◌, ◌+◌, ℕ, List, [], ◌∷◌, ◌++◌, length, take, drop, refl, sym, ap, ◌∙◌, arith, append_assoc, append-nil}
+use Rattle.std.specs.Prelude.{IsNone}
+use Rattle.std.specs.List.{AllByRecursion}
+use Rattle.std.proofs.lemmas.Grind.{flat_map-append}
+use Rattle.std.proofs.lemmas.List.{length-append, length-drop, drop-drop, get_or-drop}
+use Rattle.std.specs.Int.{w16, w32, to_be_bytes}
+use Rattle.frame_model.specs.declared.framing.Framing.{Framing}
+use Rattle.frame_model.specs.declared.framing.Framing.TheVariants.{Len4, Len2, Line}
+use Rattle.frame_model.specs.Spelling.{obstacle, spelling, text}
+use Rattle.frame_model.specs.Cut.{IsBytes}
+use Rattle.frame_model.proofs.FrontLemmas.{front_shorter}
+use Rattle.frame_model.proofs.LongestLemmas.{front_found}
+use Rattle.frame_fronts.specs.Fronts.{IsFront, IsSpelt, IsWhole}
+
+bytes_drop : (n : ℕ) (x : List ℕ) → IsBytes x → IsBytes (drop n x)
+bytes_drop n x h i = rw get_or-drop (h (n + i))
+
+all_more : (P : List ℕ → Type 0) (ps : List (List ℕ)) (p : List ℕ) → AllByRecursion P ps → P p → AllByRecursion P (ps ++ p ∷ [])
+all_more P [] p each here = (here, tt)
+all_more P (q ∷ ps) p each here = (each.0, all_more P ps p each.1 here)
+
+pub text_more : (f : Framing) (ps : List (List ℕ)) (p : List ℕ) → text f (ps ++ p ∷ []) ≡ text f ps ++ spelling f p
+text_more f ps p = flat_map-append (spelling f) ps (p ∷ []) ∙ ap (λ (t : List ℕ). text f ps ++ t) (append-nil (spelling f p))
+
+-- a frame has a byte
+pub some : (f : Framing) (max : ℕ) (x : List ℕ) (from n end : ℕ) → IsWhole f max x from n end → 0 < end
+some f max x from n end whole = omega (arith, front_shorter f max x (take n (drop from x)) (drop end x) whole.whole, length-drop end x, whole.within.1)
+
+-- no frame
+pub no_frames : (input output : Framing) (max : ℕ) (x : List ℕ) → IsFront input output max x 0 0 []
+no_frames input output max x = record { counted = refl; size = refl; parts = refl; each = tt }
+
+-- one frame more
+pub one_more : (input output : Framing) (max : ℕ) (x : List ℕ) (len frames from n end : ℕ) (payloads : List (List ℕ)) → IsBytes x → IsFront input output max x len frames payloads
+    → IsWhole input max (drop len x) from n end → (IsNone (obstacle input (take n (drop from (drop len x)))) → IsNone (obstacle output (take n (drop from (drop len x)))))
+    → IsFront input output max x (len + end) (frames + 1) (payloads ++ take n (drop from (drop len x)) ∷ [])
+one_more input output max x len frames from n end payloads fits front whole spelt =
+    let rest = drop len x in
+    let p = take n (drop from rest) in
+    let more = drop end rest in
+    let found = front_found input max rest p more (bytes_drop len x fits) whole.whole in
+    let one = spelling input p in
+    let before = text input payloads in
+    let size : end ≡ length one = omega (arith, ap length found.parts, length-append one more, length-drop end rest, whole.within.1) in
+    record {
+      counted = omega (arith, front.counted, length-append payloads (p ∷ []));
+      size = omega (arith, front.size, size, ap length (text_more input payloads p), length-append before one);
+      parts =
+          front.parts ∙ ap (λ (t : List ℕ). before ++ t) (found.parts ∙ ap (λ (t : List ℕ). one ++ t) (drop-drop end len x))
+          ∙ sym (append_assoc before one (drop (len + end) x)) ∙ ap (λ (t : List ℕ). t ++ drop (len + end) x) (sym (text_more input payloads p));
+      each = all_more (λ p. (length p ≤ max) × IsNone (obstacle input p) × IsNone (obstacle output p)) payloads p front.each (found.within, found.possible, spelt found.possible);
+    }
+
+-- the same, spelt anew
+pub one_more_spelt : (input output : Framing) (max : ℕ) (x : List ℕ) (len frames from n more : ℕ) (old : List ℕ) (at : ℕ) (room new : List ℕ) (end last : ℕ) → IsBytes x
+    → IsSpelt input output max x len frames old at room end → IsWhole input max (drop len x) from n more → IsNone (obstacle output (take n (drop from (drop len x))))
+    → last ≡ end + length (spelling output (take n (drop from (drop len x)))) → take last new ≡ take end room ++ spelling output (take n (drop from (drop len x)))
+    → IsSpelt input output max x (len + more) (frames + 1) old at new last
+one_more_spelt input output max x len frames from n more old at room new end last fits so_far whole spelt last_is put =
+    let p = take n (drop from (drop len x)) in
+    let one = spelling output p in
+    let before = text output so_far.payloads in
+    record {
+      payloads = so_far.payloads ++ p ∷ [];
+      front = one_more input output max x len frames from n more so_far.payloads fits so_far.front whole (λ possible. spelt);
+      end_is = omega (arith, last_is, so_far.end_is, ap length (text_more output so_far.payloads p), length-append before one);
+      put = put ∙ ap (λ (t : List ℕ). t ++ one) so_far.put ∙ append_assoc (take at old) before one ∙ ap (λ (t : List ℕ). take at old ++ t) (sym (text_more output so_far.payloads p));
+    }
+
+-- frames behind frames
+all_joined : (P : List ℕ → Type 0) (ps qs : List (List ℕ)) → AllByRecursion P ps → AllByRecursion P qs → AllByRecursion P (ps ++ qs)
+all_joined P [] qs each others = others
+all_joined P (p ∷ ps) qs each others = (each.0, all_joined P ps qs each.1 others)
+
+pub fronts_joined : (input output : Framing) (max : ℕ) (x : List ℕ) (len frames n more : ℕ) (ps qs : List (List ℕ)) → IsFront input output max x len frames ps → IsFront input output max (drop len x) n more qs → IsFront input output max x (len + n) (frames + more) (ps ++ qs)
+fronts_joined input output max x len frames n more ps qs front behind =
+    let joined : text input (ps ++ qs) ≡ text input ps ++ text input qs = flat_map-append (spelling input) ps qs in
+    record {
+      counted = omega (arith, front.counted, behind.counted, length-append ps qs);
+      size = omega (arith, front.size, behind.size, ap length joined, length-append (text input ps) (text input qs));
+      parts =
+          front.parts ∙ ap (λ (t : List ℕ). text input ps ++ t) (behind.parts ∙ ap (λ (t : List ℕ). text input qs ++ t) (drop-drop n len x))
+          ∙ sym (append_assoc (text input ps) (text input qs) (drop (len + n) x)) ∙ ap (λ (t : List ℕ). t ++ drop (len + n) x) (sym joined);
+      each = all_joined (λ p. (length p ≤ max) × IsNone (obstacle input p) × IsNone (obstacle output p)) ps qs front.each behind.each;
+    }
+
+spelling_long : (f : Framing) (p : List ℕ) → 1 ≤ length (spelling f p)
+spelling_long Len4 p = omega (arith, length-append (to_be_bytes w32 (length p) ++ p) [], length-append (to_be_bytes w32 (length p)) p)
+spelling_long Len2 p = omega (arith, length-append (to_be_bytes w16 (length p) ++ p) [], length-append (to_be_bytes w16 (length p)) p)
+spelling_long Line p = omega (arith, length-append p (10 ∷ []))
+
+-- frames have a byte each, and lie within the bytes
+text_long : (f : Framing) (ps : List (List ℕ)) → length ps ≤ length (text f ps)
+text_long f [] = omega arith
+text_long f (p ∷ ps) = omega (arith, text_long f ps, spelling_long f p, length-append (spelling f p) (text f ps))
+
+pub front_few : (input output : Framing) (max : ℕ) (x : List ℕ) (len frames : ℕ) (ps : List (List ℕ)) → IsFront input output max x len frames ps → (frames ≤ len) × (len ≤ length x)
+front_few input output max x len frames ps front = (
+  omega (arith, front.counted, front.size, text_long input ps),
+  omega (arith, front.size, ap length front.parts, length-append (text input ps) (drop len x)),
+)

@@ -1,0 +1,4 @@
+mod CleanLemmas
+mod CopyLemmas
+mod LineLemmas
+pub mod FrontLemmas

@@ -1,0 +1,14 @@
+//! The whole frames at the front of a slice: counted, and spelt anew into a room.
+#![tactic(auto)]
+
+mod clean;
+mod copy;
+mod front;
+mod lines;
+mod place;
+mod spell;
+#[cfg(test)]
+mod tests;
+
+pub use front::{Front, whole_front};
+pub use spell::{Spelt, spell_front};
