@@ -68,6 +68,20 @@ one_more_spelt input output max x len frames from n more old at room new end las
       put = put ∙ ap (λ (t : List ℕ). t ++ one) so_far.put ∙ append_assoc (take at old) before one ∙ ap (λ (t : List ℕ). take at old ++ t) (sym (text_more output so_far.payloads p));
     }
 
+-- payloads that are small enough are so for a greater limit too
+each_wider : (input output : Framing) (small max : ℕ) → small ≤ max → (ps : List (List ℕ)) → AllByRecursion (λ p. (length p ≤ small) × IsNone (obstacle input p) × IsNone (obstacle output p)) ps
+    → AllByRecursion (λ p. (length p ≤ max) × IsNone (obstacle input p) × IsNone (obstacle output p)) ps
+each_wider input output small max less [] each = tt
+each_wider input output small max less (p ∷ ps) each = ((omega (arith, each.0.0, less), each.0.1, each.0.2), each_wider input output small max less ps each.1)
+
+pub front_wider : (input output : Framing) (small max : ℕ) (x : List ℕ) (len frames : ℕ) (ps : List (List ℕ)) → small ≤ max → IsFront input output small x len frames ps → IsFront input output max x len frames ps
+front_wider input output small max x len frames ps less front = record {
+  counted = front.counted;
+  size = front.size;
+  parts = front.parts;
+  each = each_wider input output small max less ps front.each;
+}
+
 -- frames behind frames
 all_joined : (P : List ℕ → Type 0) (ps qs : List (List ℕ)) → AllByRecursion P ps → AllByRecursion P qs → AllByRecursion P (ps ++ qs)
 all_joined P [] qs each others = others

@@ -1,17 +1,17 @@
 -- The lines of some bytes, by their number.
-use Rattle.std.proofs.Common.{◌≡◌, ◌≢◌, ◌<◌, ◌≤◌, ◌+◌, ℕ, zero, suc, true, eqb, List, [], ◌∷◌, ◌++◌, length, take, drop, get_or, refl, sym, ap, ◌∙◌, arith, inl, inr, min, subst}
+use Rattle.std.proofs.Common.{◌≡◌, ◌≢◌, ◌<◌, ◌≤◌, ◌+◌, ℕ, zero, suc, true, eqb, List, [], ◌∷◌, ◌++◌, length, take, drop, get_or, refl, sym, ap, ◌∙◌, arith, cond, inl, inr, min, nat_lt, None, Option, Some, position, subst}
 use Rattle.std.specs.Prelude.{IsNone, slice_index}
 use Rattle.std.specs.List.{AllByRecursion, count_by}
-use Rattle.std.proofs.lemmas.Bool.{cases_Bool, eqb-true, eqb-false}
+use Rattle.std.proofs.lemmas.Bool.{cases_Bool, eqb-true, eqb-false, ltb-false, ltb-true}
 use Rattle.std.proofs.lemmas.Grind.{take_at_read}
-use Rattle.std.proofs.lemmas.List.Sums.{passes_at_first}
+use Rattle.std.proofs.lemmas.List.Sums.{fails_before_first, passes_at_first, position_or_len_is}
 use Rattle.std.proofs.lemmas.List.{length-append, length-take, length-drop, take-append-drop, take-take, get_or-drop, get_or-take}
 use Rattle.memchr.specs.Find.{NoneAfter, Nowhere}
 use Rattle.byte_kernels.proofs.LaneLemmas.{count_parts}
 use Rattle.frame_model.specs.declared.framing.Framing.TheVariants.{Line}
 use Rattle.frame_model.specs.Spelling.{is_line_feed, obstacle, text}
-use Rattle.frame_model.proofs.FrontLemmas.{line_is, line_len}
-use Rattle.frame_fronts.specs.Fronts.{HasNoFrame, IsFront}
+use Rattle.frame_model.proofs.FrontLemmas.{chosen, line_from, line_is, line_len}
+use Rattle.frame_fronts.specs.Fronts.{HasNoFrame, IsFront, IsWhole}
 use Rattle.frame_fronts.proofs.CleanLemmas.{has_none}
 
 -- no byte of it ends a line
@@ -106,3 +106,46 @@ no_line max x most is none p more e =
     let k = line_len x in
     let below : k < most = omega (arith, is, l.ends, l.within) in
     none k (omega arith) (omega (arith, below, is, length-take most x)) (ap (λ (b : ℕ). eqb b 10) (get_or-take most x k 0 below) ∙ passes_at_first is_line_feed x 0 l.ends)
+
+-- the first line feed within the longest line
+chosen_len : (n len : ℕ) (r : Option ℕ) → cond (nat_lt n len) (Some n) None ≡ r → (at : ℕ) → r ≡ Some at → (n ≡ at) × (n < len)
+chosen_len n len r e at is = elim (chosen (nat_lt n len) (Some n) None (Some at) (e ∙ is)) [
+  | inl a ↦ (cc, ltb-true n len a.0)
+  | inr b ↦ absurd cc
+]
+
+chosen_none : (n len : ℕ) → cond (nat_lt n len) (Some n) None ≡ None → len ≤ n
+chosen_none n len e = elim (chosen (nat_lt n len) (Some n) None None e) [
+  | inl a ↦ absurd cc
+  | inr b ↦ ltb-false n len b.0
+]
+
+pub line_within : (max : ℕ) (x : List ℕ) (most n : ℕ) → most ≡ min (length x) (max + 1) → position is_line_feed (take most x) ≡ Some n → IsWhole Line max x 0 n (n + 1)
+line_within max x most n is found =
+    let y = take most x in
+    let first = chosen_len (line_len y) (length y) (Some n) found n refl in
+    let size : length y ≡ most = omega (arith, is, length-take most x) in
+    let below : n < most = omega (arith, first.0, first.1, size) in
+    let len : line_len x ≡ n = position_or_len_is is_line_feed x n 0 (omega (arith, below, is))
+    (λ k lt. ap is_line_feed (sym (get_or-take most x k 0 (omega (arith, lt, below)))) ∙ fails_before_first is_line_feed y k 0 (omega (arith, lt, first.0)))
+    (λ lt. ap is_line_feed (sym (get_or-take most x n 0 below)) ∙ ap (λ (k : ℕ). is_line_feed (get_or y k 0)) (sym first.0) ∙ passes_at_first is_line_feed y 0 first.1) in
+    record {
+      whole = line_from max x (take n x) (drop (n + 1) x) (record {
+        ends = omega (arith, len, below, is);
+        within = omega (arith, len, below, is);
+        payload = ap (λ (k : ℕ). take k x) len;
+        rest = ap (λ (k : ℕ). drop (k + 1) x) len;
+      });
+      within = (omega arith, omega (arith, below, is));
+    }
+
+pub no_line_near : (max : ℕ) (x : List ℕ) (most : ℕ) → most ≡ min (length x) (max + 1) → position is_line_feed (take most x) ≡ None → HasNoFrame Line max x
+no_line_near max x most is none p more e =
+    let y = take most x in
+    let l = line_is max x p more e in
+    let k = line_len x in
+    let below : k < most = omega (arith, is, l.ends, l.within) in
+    let late = chosen_none (line_len y) (length y) none in
+    let fails = fails_before_first is_line_feed y k 0 (omega (arith, below, late, is, length-take most x)) in
+    let passes : is_line_feed (get_or y k 0) ≡ true = ap is_line_feed (get_or-take most x k 0 below) ∙ passes_at_first is_line_feed x 0 l.ends in
+    absurd cc

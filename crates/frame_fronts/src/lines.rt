@@ -1,10 +1,10 @@
 //! The whole lines at the front of a slice, counted.
 
-ghost use Rattle.std.specs.Prelude.{◌≡◌, ◌<◌, ◌+◌, ℕ, List, length, min, drop, IfSome, IfNone};
+ghost use Rattle.std.specs.Prelude.{◌≡◌, ◌<◌, ◌+◌, ℕ, List, length, drop, IfSome, IfNone};
 ghost use Rattle.frame_fronts.specs.Fronts.{HasNoFrame, IsFront};
 
 use crate::front::Front;
-use crate::place::behind;
+use crate::place::{behind, longest};
 use byte_kernels::count_of;
 use frame_model::Framing;
 use memchr::memrchr;
@@ -40,15 +40,4 @@ fn lines_within(max: u64, bytes: &[u8]) -> Option<Front>
             frames: count_of(front, 10) as u64,
         }),
     }
-}
-
-/// How many of so many bytes the longest line may have.
-#[inline(always)]
-fn longest(max: u64, len: usize) -> usize
-    ensures { result ≡ min len (max + 1) }
-{
-    if len as u64 > max {
-        return max as usize + 1;
-    }
-    len
 }

@@ -1,6 +1,6 @@
 //! The frame at the front of a slice.
 
-ghost use Rattle.std.specs.Prelude.{◌≡◌, ◌==◌, ◌≤◌, length, drop, position, IfNone, IfSome};
+ghost use Rattle.std.specs.Prelude.{◌≡◌, ◌==◌, ◌≤◌, ◌+◌, length, min, drop, position, IfNone, IfSome};
 ghost use Rattle.frame_model.specs.Spelling.{is_line_feed};
 ghost use Rattle.frame_fronts.specs.Fronts.{HasNoFrame, IsWhole};
 
@@ -77,17 +77,26 @@ fn line(max: u64, bytes: &[u8]) -> Option<Place>
     ensures whole { IfSome result (λ place. IsWhole Framing.Line max bytes.now place.from place.len place.end) }
     ensures none { IfNone result (HasNoFrame Framing.Line max bytes.now) }
 {
-    let Some(len) = index_near(bytes, 10) else {
-        return None;
-    };
-    if len as u64 > max {
-        return None;
+    let most = longest(max, bytes.len());
+    match index_near(&bytes[..most], 10) {
+        None => None,
+        Some(len) => Some(Place {
+            from: 0,
+            len,
+            end: len + 1,
+        }),
     }
-    Some(Place {
-        from: 0,
-        len,
-        end: len + 1,
-    })
+}
+
+/// How many of so many bytes the longest line may have, with its line feed.
+#[inline(always)]
+pub(crate) fn longest(max: u64, len: usize) -> usize
+    ensures { result ≡ min len (max + 1) }
+{
+    if len as u64 > max {
+        return max as usize + 1;
+    }
+    len
 }
 
 /// What stands behind the first `count` bytes.
