@@ -3,15 +3,12 @@
 ghost use Rattle.std.specs.Prelude.{◌≡◌, IfOk};
 ghost use Rattle.edge_core.specs.MemDoors.{IsFresh, name_of};
 
-use crate::case::strings;
-use edge_core::{MemDoors, MemSink, MemSource, Source};
-use relay_top::relay_main;
+use crate::case::{Wanted, are_unread, command_with, does, unread_devices};
+use edge_core::{MemDoors, MemSink, MemSource};
 use std::alloc::{AllocError, Global};
 use std::sync::Wait;
 use std::test::Fail;
 use std::thread::Threads;
-
-const UNREAD: &[u8] = b"unread";
 
 /// What the two names a and b have, which reads of a and writes to it fail, which openings fail, the words behind the command,
 /// which calls of the sink fail, and what is to come out: the bytes of each sink that came back, in their order, the lines, the
@@ -107,27 +104,16 @@ fn holds<R: Wait + Threads + Sync>(
     alloc: Global,
     case: &Batch<'_>,
 ) -> Result<bool, AllocError> {
-    let mut words = strings(alloc, case.words)?;
-    words.insert(0, String::from_str(alloc, "batch")?)?;
-    let mut source = MemSource::make(UNREAD.to_vec(alloc)?, Vec::new(alloc), Vec::new(alloc));
-    let mut sink = MemSink::make(alloc, 64, Vec::new(alloc), case.fails.to_vec(alloc)?)?;
-    let mut faults = MemSink::make(alloc, 64, Vec::new(alloc), Vec::new(alloc))?;
-    let mut doors = doors_of(alloc, case)?;
-    if words.len() >= 1 << 32 {
-        return Ok(false);
-    }
-    let status = relay_main(
-        rt,
-        alloc,
-        words.as_slice(),
-        &mut source,
-        &mut sink,
-        &mut faults,
-        &mut doors,
-    );
-    let unread = source.read(&mut [0; 64]) == Ok(UNREAD.len());
-    let told = sink.bytes() == case.output && faults.bytes() == case.line;
-    Ok(status == case.status && told && unread && hold(doors.outlets(), case.outlets))
+    let words = command_with(alloc, "batch", case.words)?;
+    let mut devices = unread_devices(alloc, 64, case.fails, doors_of(alloc, case)?)?;
+    let wanted = Wanted {
+        output: case.output,
+        status: case.status,
+        line: case.line,
+    };
+    let is_done = does(rt, alloc, words.as_slice(), &mut devices, &wanted);
+    let is_unread = are_unread(&mut devices);
+    Ok(is_done && is_unread && hold(devices.doors.outlets(), case.outlets))
 }
 
 #[test]

@@ -1,10 +1,27 @@
 //! A case of a command that relays, between devices in memory.
 
-use edge_core::{MemSink, MemSource, NoDoors};
+use edge_core::{MemDoors, MemSink, MemSource, Source};
 use relay_top::relay_main;
 use std::alloc::{AllocError, Global};
 use std::sync::Wait;
 use std::thread::Threads;
+
+/// What a command has to do with: its source, its sink, where faults are told, and its doors.
+#[derive(Drop)]
+pub struct Devices {
+    pub source: MemSource,
+    pub sink: MemSink,
+    pub faults: MemSink,
+    pub doors: MemDoors,
+}
+
+/// What is to come out of a command.
+#[derive(Clone, Copy)]
+pub struct Wanted<'a> {
+    pub output: &'a [u8],
+    pub status: u8,
+    pub line: &'a [u8],
+}
 
 /// The words behind a command, its input, how reads and writes are cut and fail, and what is to come out.
 #[derive(Clone, Copy)]
@@ -15,9 +32,7 @@ pub struct Case<'a> {
     pub failing_reads: &'a [u64],
     pub caps: &'a [usize],
     pub failing_writes: &'a [u64],
-    pub output: &'a [u8],
-    pub status: u8,
-    pub line: &'a [u8],
+    pub wanted: Wanted<'a>,
 }
 
 pub fn plain<'a>(
@@ -34,9 +49,11 @@ pub fn plain<'a>(
         failing_reads: &[],
         caps: &[],
         failing_writes: &[],
-        output,
-        status,
-        line,
+        wanted: Wanted {
+            output,
+            status,
+            line,
+        },
     }
 }
 
@@ -48,48 +65,136 @@ pub fn strings(alloc: Global, texts: &[&str]) -> Result<Vec<String>, AllocError>
     Ok(words)
 }
 
-pub fn source_of(alloc: Global, case: &Case<'_>) -> Result<MemSource, AllocError> {
+/// A command with the words behind it.
+pub fn command_with(
+    alloc: Global,
+    command: &str,
+    texts: &[&str],
+) -> Result<Vec<String>, AllocError> {
+    let mut words = strings(alloc, texts)?;
+    words.insert(0, String::from_str(alloc, command)?)?;
+    Ok(words)
+}
+
+// A function that makes a thing which is seen as a state has no contract here: what it tells would be asked of each goal of a
+// caller that makes several.
+
+fn source_of(
+    alloc: Global,
+    bytes: &[u8],
+    cuts: &[usize],
+    fails: &[u64],
+) -> Result<MemSource, AllocError> {
     Ok(MemSource::make(
-        case.input.to_vec(alloc)?,
-        case.cuts.to_vec(alloc)?,
-        case.failing_reads.to_vec(alloc)?,
+        bytes.to_vec(alloc)?,
+        cuts.to_vec(alloc)?,
+        fails.to_vec(alloc)?,
     ))
 }
 
-/// Whether a command does what the case says.
+fn sink_of(
+    alloc: Global,
+    room: usize,
+    caps: &[usize],
+    fails: &[u64],
+) -> Result<MemSink, AllocError> {
+    MemSink::make(alloc, room, caps.to_vec(alloc)?, fails.to_vec(alloc)?)
+}
+
+/// Doors that refuse each opening.
+pub fn no_names(alloc: Global) -> Result<MemDoors, AllocError> {
+    MemDoors::make(
+        alloc,
+        Vec::new(alloc),
+        Vec::new(alloc),
+        Vec::new(alloc),
+        Vec::new(alloc),
+    )
+}
+
+const UNREAD: &[u8] = b"unread";
+
+/// Devices of a command that reads nothing of its source.
+pub fn unread_devices(
+    alloc: Global,
+    room: usize,
+    fails: &[u64],
+    doors: MemDoors,
+) -> Result<Devices, AllocError> {
+    Ok(Devices {
+        source: source_of(alloc, UNREAD, &[], &[])?,
+        sink: sink_of(alloc, room, &[], fails)?,
+        faults: sink_of(alloc, 64, &[], &[])?,
+        doors,
+    })
+}
+
+/// Whether nothing was read of their source.
+pub fn are_unread(devices: &mut Devices) -> bool {
+    gives(&mut devices.source, UNREAD.len())
+}
+
+/// The status of a command, if there are few enough words. Only here does the check meet the long contract of `relay_main`.
+fn run<R: Wait + Threads + Sync>(
+    rt: &R,
+    alloc: Global,
+    words: &[String],
+    devices: &mut Devices,
+) -> Option<u8> {
+    if words.len() >= 1 << 32 {
+        return None;
+    }
+    Some(relay_main(
+        rt,
+        alloc,
+        words,
+        &mut devices.source,
+        &mut devices.sink,
+        &mut devices.faults,
+        &mut devices.doors,
+    ))
+}
+
+/// Whether this comes out of a command.
+pub fn does<R: Wait + Threads + Sync>(
+    rt: &R,
+    alloc: Global,
+    words: &[String],
+    devices: &mut Devices,
+    wanted: &Wanted<'_>,
+) -> bool {
+    let status = run(rt, alloc, words, devices);
+    status == Some(wanted.status)
+        && devices.sink.bytes() == wanted.output
+        && devices.faults.bytes() == wanted.line
+}
+
+/// Whether a read of this source gives so many bytes.
+fn gives(source: &mut MemSource, count: usize) -> bool {
+    let mut bytes = [0; 64];
+    source.read(&mut bytes) == Ok(count)
+}
+
+/// The devices of a case of `copy` or `pump`.
+fn devices_of(alloc: Global, case: &Case<'_>) -> Result<Devices, AllocError> {
+    Ok(Devices {
+        source: source_of(alloc, case.input, case.cuts, case.failing_reads)?,
+        sink: sink_of(alloc, 131_072, case.caps, case.failing_writes)?,
+        faults: sink_of(alloc, 64, &[], &[])?,
+        doors: no_names(alloc)?,
+    })
+}
+
+/// Whether a command does what the case says, and a read of its source gives so many bytes then, where that is asked.
 pub fn holds<R: Wait + Threads + Sync>(
     rt: &R,
     alloc: Global,
     command: &str,
     case: &Case<'_>,
+    left: Option<usize>,
 ) -> Result<bool, AllocError> {
-    holds_from(rt, alloc, command, case, &mut source_of(alloc, case)?)
-}
-
-/// The same, of a source that the caller looks at behind the relay.
-pub fn holds_from<R: Wait + Threads + Sync>(
-    rt: &R,
-    alloc: Global,
-    command: &str,
-    case: &Case<'_>,
-    source: &mut MemSource,
-) -> Result<bool, AllocError> {
-    let mut words = strings(alloc, case.words)?;
-    words.insert(0, String::from_str(alloc, command)?)?;
-    let caps = case.caps.to_vec(alloc)?;
-    let mut sink = MemSink::make(alloc, 131_072, caps, case.failing_writes.to_vec(alloc)?)?;
-    let mut faults = MemSink::make(alloc, 64, Vec::new(alloc), Vec::new(alloc))?;
-    if words.len() >= 1 << 32 {
-        return Ok(false);
-    }
-    let status = relay_main(
-        rt,
-        alloc,
-        words.as_slice(),
-        source,
-        &mut sink,
-        &mut faults,
-        &mut NoDoors::new(),
-    );
-    Ok(status == case.status && sink.bytes() == case.output && faults.bytes() == case.line)
+    let words = command_with(alloc, command, case.words)?;
+    let mut devices = devices_of(alloc, case)?;
+    let is_done = does(rt, alloc, words.as_slice(), &mut devices, &case.wanted);
+    Ok(is_done && left.is_none_or(|count| gives(&mut devices.source, count)))
 }

@@ -1,14 +1,10 @@
 //! `drill`, whose summary goes to a sink in memory.
 
-use crate::case::strings;
-use edge_core::{MemSink, MemSource, NoDoors, Source};
-use relay_top::relay_main;
+use crate::case::{Wanted, are_unread, command_with, does, no_names, unread_devices};
 use std::alloc::{AllocError, Global};
 use std::sync::Wait;
 use std::test::Fail;
 use std::thread::Threads;
-
-const UNREAD: &[u8] = b"unread";
 
 /// The words behind the command, which calls of the sink fail, how much room it has, and what is to come out.
 #[derive(Clone, Copy)]
@@ -38,27 +34,15 @@ fn holds<R: Wait + Threads + Sync>(
     alloc: Global,
     case: &Drill<'_>,
 ) -> Result<bool, AllocError> {
-    let mut words = strings(alloc, case.words)?;
-    words.insert(0, String::from_str(alloc, "drill")?)?;
-    let mut source = MemSource::make(UNREAD.to_vec(alloc)?, Vec::new(alloc), Vec::new(alloc));
-    let fails = case.fails.to_vec(alloc)?;
-    let mut sink = MemSink::make(alloc, case.room, Vec::new(alloc), fails)?;
-    let mut faults = MemSink::make(alloc, 64, Vec::new(alloc), Vec::new(alloc))?;
-    if words.len() >= 1 << 32 {
-        return Ok(false);
-    }
-    let status = relay_main(
-        rt,
-        alloc,
-        words.as_slice(),
-        &mut source,
-        &mut sink,
-        &mut faults,
-        &mut NoDoors::new(),
-    );
-    let unread = source.read(&mut [0; 64]) == Ok(UNREAD.len());
-    let told = faults.bytes() == case.line;
-    Ok(status == case.status && sink.bytes() == case.output && told && unread)
+    let words = command_with(alloc, "drill", case.words)?;
+    let mut devices = unread_devices(alloc, case.room, case.fails, no_names(alloc)?)?;
+    let wanted = Wanted {
+        output: case.output,
+        status: case.status,
+        line: case.line,
+    };
+    let is_done = does(rt, alloc, words.as_slice(), &mut devices, &wanted);
+    Ok(is_done && are_unread(&mut devices))
 }
 
 #[test]

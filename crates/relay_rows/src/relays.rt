@@ -1,8 +1,9 @@
 //! `copy` and `pump`, between devices in memory. What they answer is the same.
 
-use crate::case::{Case, holds, holds_from, plain, source_of, strings};
-use edge_core::{MemSink, MemSource, NoDoors, Source};
-use relay_top::{is_local, relay_main};
+use crate::case::{
+    Case, Wanted, are_unread, does, holds, no_names, plain, strings, unread_devices,
+};
+use relay_top::is_local;
 use std::alloc::{AllocError, Global};
 use std::sync::Wait;
 use std::test::Fail;
@@ -19,7 +20,7 @@ fn hold<R: Wait + Threads + Sync>(
     cases: &[Case<'_>],
 ) -> Result<bool, AllocError> {
     for case in cases {
-        if !holds(rt, alloc, "copy", case)? || !holds(rt, alloc, "pump", case)? {
+        if !holds(rt, alloc, "copy", case, None)? || !holds(rt, alloc, "pump", case, None)? {
             return Ok(false);
         }
     }
@@ -158,14 +159,27 @@ fn copy_reads_no_more_behind_a_bad_frame_or_a_fault(rt: HostRuntime) -> Result<(
         },
     ];
     for case in &cases {
-        let mut source = source_of(alloc, case)?;
-        assert!(rt; holds_from(&rt, alloc, "copy", case, &mut source)?);
-        assert_eq!(rt; source.read(&mut [0; 8]), Ok(3));
+        assert!(rt; holds(&rt, alloc, "copy", case, Some(3))?);
     }
     Ok(())
 }
 
-/// The third read fails: two reads of a segment came before it, or else the end of the input.
+/// Whether `copy` does this where the third read fails.
+fn ends_with_the_third_read<R: Wait + Threads + Sync>(
+    rt: &R,
+    alloc: Global,
+    words: &[&str],
+    input: &[u8],
+    wanted: Wanted<'_>,
+) -> Result<bool, AllocError> {
+    let case = Case {
+        failing_reads: &[3],
+        ..plain(words, input, wanted.output, wanted.status, wanted.line)
+    };
+    holds(rt, alloc, "copy", &case, None)
+}
+
+/// Two reads of a segment come before the third one, or else the end of the input.
 #[test]
 fn a_read_of_copy_takes_at_most_a_segment(rt: HostRuntime) -> Result<(), Fail> {
     let alloc = rt.alloc();
@@ -190,11 +204,12 @@ fn a_read_of_copy_takes_at_most_a_segment(rt: HostRuntime) -> Result<(), Fail> {
         (&["line", "line"], 4096, 4096, 0, b""),
     ];
     for (words, given, taken, status, line) in cases {
-        let case = Case {
-            failing_reads: &[3],
-            ..plain(words, &bytes[..given], &bytes[..taken], status, line)
+        let wanted = Wanted {
+            output: &bytes[..taken],
+            status,
+            line,
         };
-        assert!(rt; holds(&rt, alloc, "copy", &case)?);
+        assert!(rt; ends_with_the_third_read(&rt, alloc, words, &bytes[..given], wanted)?);
     }
     Ok(())
 }
@@ -240,23 +255,14 @@ fn told<R: Wait + Threads + Sync>(
     line: &[u8],
 ) -> Result<bool, AllocError> {
     let words = strings(alloc, words)?;
-    let mut source = MemSource::make(TWO_FRAMES.to_vec(alloc)?, Vec::new(alloc), Vec::new(alloc));
-    let mut sink = MemSink::make(alloc, 64, Vec::new(alloc), Vec::new(alloc))?;
-    let mut faults = MemSink::make(alloc, 64, Vec::new(alloc), Vec::new(alloc))?;
-    if words.len() >= 1 << 32 {
-        return Ok(false);
-    }
-    let status = relay_main(
-        rt,
-        alloc,
-        words.as_slice(),
-        &mut source,
-        &mut sink,
-        &mut faults,
-        &mut NoDoors::new(),
-    );
-    let untouched = sink.bytes().is_empty() && source.read(&mut [0; 64]) == Ok(TWO_FRAMES.len());
-    Ok(status == 1 && faults.bytes() == line && untouched)
+    let mut devices = unread_devices(alloc, 64, &[], no_names(alloc)?)?;
+    let wanted = Wanted {
+        output: b"",
+        status: 1,
+        line,
+    };
+    let is_told = does(rt, alloc, words.as_slice(), &mut devices, &wanted);
+    Ok(is_told && are_unread(&mut devices))
 }
 
 #[test]
