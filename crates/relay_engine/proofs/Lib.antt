@@ -8,6 +8,7 @@ mod EndingLemmas
 mod FillSideLemmas
 mod FillingLemmas
 mod FrameLemmas
+mod FrontLemmas
 mod GatherLemmas
 mod PipeDrainerLemmas
 mod PipeFillerLemmas

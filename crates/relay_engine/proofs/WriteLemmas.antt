@@ -55,7 +55,7 @@ front_take : (out all : List ℕ) → IsPrefix out all → out ≡ take (length 
 front_take out all front = sym (ap (λ (b : List ℕ). take (length out) b) (sym front.1) ∙ take-append_seam out front.0)
 
 -- a call failed behind these frames, within a piece of what comes next
-interrupted : (job : Job) (x : List ℕ) (at_end : Bool) (h i : Gathered) (s t u : SinkState) (n frames : ℕ) (text piece behind_it : List ℕ) → length x ≤ 2 ^ 62 → Passes job x at_end n frames text → Puts begun s text h t
+pub interrupted : (job : Job) (x : List ℕ) (at_end : Bool) (h i : Gathered) (s t u : SinkState) (n frames : ℕ) (text piece behind_it : List ℕ) → length x ≤ 2 ^ 62 → Passes job x at_end n frames text → Puts begun s text h t
     → (translation job (drop n x) at_end).text ≡ piece ++ behind_it → length piece ≤ 5 * length (drop n x) → PutsFront h t piece i u → Interrupts job x at_end s i.passed u
 interrupted job x at_end h i s t u n frames text piece behind_it small passes puts next bounded failed =
     let f = front_last begun h i s t u text piece puts failed in

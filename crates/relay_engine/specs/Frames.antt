@@ -43,10 +43,6 @@ pub record StopsAt (job : Job) (bytes : List ℕ) (at_end : Bool) (stop : Stop) 
   pub short : stop ≡ stops.More → length bytes < longest_frame job.input job.max
   pub unended : stop ≡ stops.More → job.input ≡ Line → IsNone (position is_line_feed bytes)
 
--- So many bytes at the front can stand in any payload of the output.
-abbrev pub IsClean : Job → ℕ → List ℕ → Type 0
-IsClean job clean bytes = 0 < clean → (job.output ≡ Line) × IsNone (position is_line_feed (take clean bytes))
-
 -- A payload that can be spelt, and its frame of so many bytes, come first.
 pub record IsFirst (job : Job) (bytes : List ℕ) (at_end : Bool) (payload : List ℕ) (len : ℕ) : Type 0 where
   pub passes : Passes job bytes at_end len 1 (spelling job.output payload)

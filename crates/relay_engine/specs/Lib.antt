@@ -1,5 +1,6 @@
 pub mod Frames
 pub mod Gathering
+pub mod Spelling
 pub mod Tell
 pub mod Ends
 pub mod Later

@@ -4,11 +4,13 @@ ghost use Rattle.std.specs.Prelude.{◌≡◌, ◌+◌, ◌<◌, ◌≤◌, ◌^
 ghost use Rattle.frame_model.specs.Spelling.{is_line_feed, obstacle, spelling};
 ghost use Rattle.frame_model.specs.Translation.{translation};
 ghost use Rattle.span_seq.specs.Sequence.{bytes};
-ghost use Rattle.relay_engine.specs.Frames.{Breaks, CountsWhole, Drains, Interrupts, IsClean, IsFirst, StopsAt};
+ghost use Rattle.relay_engine.specs.Frames.{Breaks, CountsWhole, Drains, Interrupts, IsFirst, StopsAt};
 ghost use Rattle.relay_engine.specs.Gathering.{Puts, PutsFront, begun};
+ghost use Rattle.relay_engine.specs.Spelling.{BreaksFrames, PutsFrames};
 
-use crate::gathering::Gathering;
+use crate::gathering::{Gathering, Passed};
 use edge_core::{Failed, Sink};
+use frame_fronts::whole_front;
 use frame_grammar::{BadKind, Cut, Framing, Job, can_spell, next_frame, spell_head, spell_tail};
 use span_seq::{Byte, One, Sequence, Spans};
 
@@ -91,20 +93,21 @@ pub fn write_frames<C: Spans, K: Sink>(
 {
     let mut rest = *lent;
     let mut known = known;
-    let mut clean = 0;
-    let mut again = true;
     let mut passed = 0;
     let mut frames = 0;
     let mut written: u64 = 0;
     loop {
-        match first_frame(job, &rest, known, clean, at_end) {
+        let front = put_front(job, unsearched(&rest, known), gathering, sink)?;
+        let rest_behind = rest.without_front(front.len as u64);
+        let known_behind = known_behind(known, front.len as u64);
+        passed += front.len as u64;
+        frames += front.frames;
+        written = written.saturating_add(front.written as u64);
+        match first_frame(job, &rest_behind, known_behind, at_end) {
             Ok((payload, len)) => {
                 let more = put_frame(job.output, &payload, gathering, sink)?;
-                rest = rest.without_front(len);
+                rest = rest_behind.without_front(len);
                 known = 0;
-                let within = len < clean;
-                clean = clean_behind(job, &rest, clean, len, again);
-                again = within;
                 passed += len;
                 frames += 1;
                 written = written.saturating_add(more);
@@ -122,40 +125,72 @@ pub fn write_frames<C: Spans, K: Sink>(
     }
 }
 
-/// How many bytes at the front of a sequence can stand in any payload of the output. A payload that becomes a line has no
-/// line feed, and one search of many small payloads is faster than one of each. 0 where nothing is gained.
-fn clean_front<C: Spans>(job: &Job, seq: &Sequence<'_, C>) -> u64
-    ensures within { result ≤ length (bytes seq.now) }
-    ensures clean { IsClean job.now result (bytes seq.now) }
+/// The bytes in the first span, where none of them was searched before, and else none.
+#[inline(always)]
+fn unsearched<'a, C: Spans>(rest: &Sequence<'a, C>, known: u64) -> &'a [u8]
+    ensures { take (length result.now) (bytes rest.now) ≡ result.now }
 {
-    match (job.input, job.output) {
-        (Framing::Len4 | Framing::Len2, Framing::Line) => match seq.index_of(&Byte(b'\n')) {
-            Some(at) => at,
-            None => seq.len(),
-        },
-        _ => 0,
-    }
+    if known == 0 { rest.first() } else { &[] }
 }
 
-/// The same behind the first `len` bytes, where `rest` is what stands there. Bytes that are not among the first `clean` are
-/// searched only where `again` says that it pays: where heads have line feeds, a search may spare none.
-fn clean_behind<C: Spans>(
-    job: &Job,
-    rest: &Sequence<'_, C>,
-    clean: u64,
-    len: u64,
-    again: bool,
-) -> u64
-    requires { len < clean → IsClean job.now (clean - len) (bytes rest.now) }
-    ensures { IsClean job.now result (bytes rest.now) }
+/// How many bytes were searched behind the first `len` of those of which the first `known` were.
+#[inline(always)]
+fn known_behind(known: u64, len: u64) -> u64
+    ensures same { len ≡ 0 → result ≡ known }
+    ensures none { 0 < len → result ≡ 0 }
 {
-    if len < clean {
-        return clean - len;
+    if len == 0 { known } else { 0 }
+}
+
+/// Puts the whole frames at the front, as far as that needs no second look at them: those that stay as they are from where
+/// they lie, and small ones spelt anew, while there is room.
+#[inline(always)]
+fn put_front<K: Sink>(
+    job: &Job,
+    bytes: &[u8],
+    gathering: &mut Gathering,
+    sink: &mut K,
+) -> Result<Passed, Failed>
+    ensures put { IfOk result (λ passed. PutsFrames job.now bytes.now gathering.old (K.state sink.old) passed gathering.new (K.state sink.new)) }
+    ensures failed { OnErr result (BreaksFrames job.now bytes.now gathering.old (K.state sink.old) gathering.new (K.state sink.new)) }
+{
+    if frames_stay(job) {
+        return pass_front(job, bytes, gathering, sink);
     }
-    if !again {
-        return 0;
-    }
-    clean_front(job, rest)
+    Ok(gathering.spell(job, bytes))
+}
+
+/// Puts the whole frames at the front as they are.
+#[inline(always)]
+fn pass_front<K: Sink>(
+    job: &Job,
+    bytes: &[u8],
+    gathering: &mut Gathering,
+    sink: &mut K,
+) -> Result<Passed, Failed>
+    requires { job.now.input ≡ job.now.output }
+    ensures put { IfOk result (λ passed. PutsFrames job.now bytes.now gathering.old (K.state sink.old) passed gathering.new (K.state sink.new)) }
+    ensures failed { OnErr result (BreaksFrames job.now bytes.now gathering.old (K.state sink.old) gathering.new (K.state sink.new)) }
+{
+    let front = whole_front(job.input, job.max, bytes);
+    gathering.put(sink, &bytes[..front.len])?;
+    Ok(Passed {
+        len: front.len,
+        frames: front.frames,
+        written: front.len,
+    })
+}
+
+/// Whether each frame is spelt as it was.
+fn frames_stay(job: &Job) -> bool
+    ensures { result ≡ true → job.now.input ≡ job.now.output }
+{
+    matches!(
+        (job.input, job.output),
+        (Framing::Len4, Framing::Len4)
+            | (Framing::Len2, Framing::Len2)
+            | (Framing::Line, Framing::Line)
+    )
 }
 
 /// Whether lines come in and go out. A payload ends before the first line feed then, and needs no search of its own.
@@ -166,16 +201,13 @@ fn lines_stay_lines(job: &Job) -> bool
 }
 
 /// The payload of the first frame, where there is one that can be spelt, with the frame's length. Else why there is none.
-/// The first `clean` bytes can stand in any payload.
 #[inline(always)]
 fn first_frame<'a, C: Spans>(
     job: &Job,
     rest: &Sequence<'a, C>,
     known: u64,
-    clean: u64,
     at_end: bool,
 ) -> Result<(Sequence<'a, C>, u64), Stop>
-    requires clean { IsClean job.now clean (bytes rest.now) }
     requires within { known ≤ length (bytes rest.now) }
     requires searched { job.now.input ≡ Framing.Line → IsNone (position is_line_feed (take known (bytes rest.now))) }
     ensures first { IfOk result (λ first. IsFirst job.now (bytes rest.now) at_end (bytes first.0) first.1) }
@@ -184,9 +216,6 @@ fn first_frame<'a, C: Spans>(
     match next_frame(job.input, job.max, rest, known, at_end) {
         Cut::Frame { from, to, end } => {
             let payload = part(rest, from, to);
-            if to < clean {
-                return Ok((payload, end));
-            }
             if lines_stay_lines(job) {
                 return Ok((payload, end));
             }
@@ -247,7 +276,7 @@ fn whole_frames<C: Spans>(job: &Job, lent: &Sequence<'_, C>, at_end: bool, writt
     let mut rest = *lent;
     let mut left = written;
     let mut frames = 0;
-    while let Ok((payload, len)) = first_frame(job, &rest, 0, 0, at_end) {
+    while let Ok((payload, len)) = first_frame(job, &rest, 0, at_end) {
         let more = u128::from(frame_len(job.output, &payload));
         if more > left {
             break;

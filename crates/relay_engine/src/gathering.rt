@@ -4,13 +4,24 @@ ghost use Rattle.std.specs.Prelude.{◌≡◌, ◌+◌, ◌<◌, ◌≤◌, ℕ,
 ghost use Rattle.edge_core.specs.Device.{Takes, TakesFront};
 ghost use Rattle.span_seq.specs.Sequence.{bytes};
 ghost use Rattle.relay_engine.specs.Gathering.{Puts, PutsFront, begun, counted};
+ghost use Rattle.relay_engine.specs.Spelling.{SpellsFront};
 
 use edge_core::{Failed, Sink, write_all};
+use frame_fronts::spell_front;
+use frame_model::Job;
 use span_seq::{Sequence, Spans};
 use std::marker::Model;
 
 /// How many bytes are gathered at most.
 const ROOM: usize = 8_192;
+
+/// How many bytes at the front of some others were passed over, in how many frames, and in how many bytes these were put.
+#[derive(Clone, Copy)]
+pub struct Passed {
+    pub len: usize,
+    pub frames: u64,
+    pub written: usize,
+}
 
 /// Bytes on their way to a sink, behind all that came to it since the gathering began.
 #[derive(Drop)]
@@ -94,6 +105,23 @@ impl Gathering {
         Ok(())
     }
 
+    /// Puts the frames at the front of some bytes, spelt anew, behind what is gathered, as far as they are small and there is
+    /// room for them. It makes no call of a sink.
+    #[inline(always)]
+    pub fn spell(&mut self, job: &Job, bytes: &[u8]) -> Passed
+        ensures { SpellsFront job.now bytes.now self.old result self.new }
+    {
+        let at = self.len;
+        let max = copied_at_most(job.max);
+        let spelt = spell_front(job.input, job.output, max, bytes, &mut self.room, at);
+        self.len = spelt.end;
+        Passed {
+            len: spelt.len,
+            frames: spelt.frames,
+            written: spelt.end - at,
+        }
+    }
+
     /// Puts all spans of a sequence behind what is gathered, in order.
     pub fn put_spans<C: Spans, K: Sink>(
         &mut self,
@@ -147,6 +175,14 @@ impl Gathering {
         copy_at(&mut self.room, self.len, piece);
         self.len += piece.len();
     }
+}
+
+// How many bytes a payload has at most that is copied, and not handed on in place.
+#[inline(always)]
+fn copied_at_most(max: u64) -> u64
+    ensures { result ≤ max }
+{
+    max.min(ROOM as u64 / 2 - 1)
 }
 
 // Writes a piece behind so many bytes, and answers how many there are then.

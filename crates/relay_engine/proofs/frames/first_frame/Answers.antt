@@ -1,9 +1,9 @@
 -- The first frame can be spelt, or it is said why not.
-use Rattle.std.proofs.Common.{List, ℕ, refl, sym, ap, ◌∙◌, arith}
+use Rattle.std.proofs.Common.{List, ℕ, refl, sym, ap, ◌∙◌}
 use Rattle.frame_model.specs.Spelling.{obstacle}
 use Rattle.frame_model.specs.declared.framing.BadKind.TheVariants.{Unspellable}
 use Rattle.span_seq.specs.Sequence.{bytes}
-use Rattle.relay_engine.proofs.CleanLemmas.{clean_first, line_first}
+use Rattle.relay_engine.proofs.CleanLemmas.{line_first}
 use Rattle.relay_engine.proofs.FrameLemmas.{is_first, none_of, some_of, unspellable_stops}
 use Rattle.relay_engine.proofs.frames.first_frame.Goals as goal
 
@@ -21,10 +21,6 @@ returns-in-Err-clause-stopped g c =
       short = λ more. absurd cc;
       unended = λ more. absurd cc;
     }
-
-pub returns-then-to-clean-clause-first : goal.returns-then-to-clean-clause-first
-returns-then-to-clean-clause-first g c =
-    clean_first c.args.job.now (bytes c.args.rest.now) c.args.at_end c.in-Frame.from c.in-Frame.to c.in-Frame.end c.args.clean (bytes c.part-payload.result) c.part-payload.ensures c.in-Frame.ensures.told (omega arith) c.requires.clean
 
 pub returns-then-lines_stay_lines-clause-first : goal.returns-then-lines_stay_lines-clause-first
 returns-then-lines_stay_lines-clause-first g c =

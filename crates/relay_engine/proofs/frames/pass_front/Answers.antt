@@ -1,0 +1,13 @@
+-- What was counted is put as it is.
+use Rattle.std.proofs.Common.{refl}
+use Rattle.relay_engine.proofs.FrontLemmas.{broken_front, passed_front}
+use Rattle.relay_engine.proofs.GatherLemmas.{on_err}
+use Rattle.relay_engine.proofs.frames.pass_front.Goals as goal
+
+pub returns-in_err-put-clause-failed : goal.returns-in_err-put-clause-failed
+returns-in_err-put-clause-failed g c =
+    on_err c.from_residual.result (broken_front c.args.job.now c.args.bytes.now _ _ _ _ _ c.whole_front-front.result.len c.whole_front-front.result.frames c.whole_front-front.ensures.counted.0 c.requires c.whole_front-front.ensures.counted.1 refl c.in_err-put.ensures.failed)
+
+pub returns-clause-put : goal.returns-clause-put
+returns-clause-put g c =
+    passed_front c.args.job.now c.args.bytes.now _ _ _ _ _ c.whole_front-front.result.len c.whole_front-front.result.frames c.whole_front-front.ensures.counted.0 c.requires c.whole_front-front.ensures.counted.1 refl c.in_ok-put.ensures.put
