@@ -1,5 +1,5 @@
 -- One frame behind the other.
-use Rattle.std.proofs.Common.{◌≡◌, ◌<◌, ◌≤◌, ◌+◌, ℕ, List, [], ◌∷◌, ◌++◌, length, take, drop, refl, sym, ap, ◌∙◌, arith, append_assoc, append-nil}
+use Rattle.std.proofs.Common.{◌≡◌, ◌<◌, ◌≤◌, ◌+◌, ℕ, List, [], ◌∷◌, ◌++◌, length, take, drop, refl, sym, ap, subst, ◌∙◌, arith, append_assoc, append-nil}
 use Rattle.std.specs.Prelude.{IsNone}
 use Rattle.std.specs.List.{AllByRecursion}
 use Rattle.std.proofs.lemmas.Grind.{flat_map-append}
@@ -8,9 +8,9 @@ use Rattle.std.specs.Int.{w16, w32, to_be_bytes}
 use Rattle.frame_model.specs.declared.framing.Framing.{Framing}
 use Rattle.frame_model.specs.declared.framing.Framing.TheVariants.{Len4, Len2, Line}
 use Rattle.frame_model.specs.Spelling.{obstacle, spelling, text}
-use Rattle.frame_model.specs.Cut.{IsBytes}
+use Rattle.frame_model.specs.Cut.{IsBytes, Whole, front}
 use Rattle.frame_model.proofs.FrontLemmas.{front_shorter}
-use Rattle.frame_model.proofs.LongestLemmas.{front_found}
+use Rattle.frame_model.proofs.LongestLemmas.{front_again, front_found}
 use Rattle.frame_fronts.specs.Fronts.{IsFront, IsSpelt, IsWhole}
 
 bytes_drop : (n : ℕ) (x : List ℕ) → IsBytes x → IsBytes (drop n x)
@@ -67,6 +67,16 @@ one_more_spelt input output max x len frames from n more old at room new end las
       end_is = omega (arith, last_is, so_far.end_is, ap length (text_more output so_far.payloads p), length-append before one);
       put = put ∙ ap (λ (t : List ℕ). t ++ one) so_far.put ∙ append_assoc (take at old) before one ∙ ap (λ (t : List ℕ). take at old ++ t) (sym (text_more output so_far.payloads p));
     }
+
+-- a payload keeps to its limit
+pub front_limit : (f : Framing) (max : ℕ) (x p more : List ℕ) → IsBytes x → front f max x ≡ Whole p more → length p ≤ max
+front_limit f max x p more fits e = (front_found f max x p more fits e).within
+
+-- a frame that is whole is so for a smaller limit that it keeps to
+pub whole_narrower : (f : Framing) (small max : ℕ) (x p more : List ℕ) → IsBytes x → front f max x ≡ Whole p more → length p ≤ small → front f small x ≡ Whole p more
+whole_narrower f small max x p more fits e few =
+    let found = front_found f max x p more fits e in
+    subst (λ (t : List ℕ). front f small t ≡ Whole p more) (sym found.parts) (front_again f small p more few found.possible)
 
 -- payloads that are small enough are so for a greater limit too
 each_wider : (input output : Framing) (small max : ℕ) → small ≤ max → (ps : List (List ℕ)) → AllByRecursion (λ p. (length p ≤ small) × IsNone (obstacle input p) × IsNone (obstacle output p)) ps

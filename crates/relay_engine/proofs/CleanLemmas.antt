@@ -19,7 +19,7 @@ use Rattle.relay_engine.proofs.FrameLemmas.{is_first, may_stop}
 has_none : (p : List ℕ) → ((k : ℕ) → k < length p → slice_index p k ≢ 10) → IsNone (position is_line_feed p)
 has_none p each = (spelt Line p (spelling Line p) (each, refl)).0
 
-before_line_feed : (x : List ℕ) (n : ℕ) → n ≤ length x → n ≤ line_len x → IsNone (position is_line_feed (take n x))
+pub before_line_feed : (x : List ℕ) (n : ℕ) → n ≤ length x → n ≤ line_len x → IsNone (position is_line_feed (take n x))
 before_line_feed x n within before =
     has_none (take n x) (λ k lt same.
     let below : k < n = omega (arith, lt, length-take n x) in

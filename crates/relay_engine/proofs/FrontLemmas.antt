@@ -1,8 +1,9 @@
 -- Frames at the front, all at once, are passed over.
-use Rattle.std.proofs.Common.{◌≡◌, ◌<◌, ◌≤◌, ◌+◌, ◌-◌, ◌^◌, ℕ, zero, suc, Bool, false, List, [], ◌∷◌, ◌++◌, length, take, drop, refl, sym, ap, subst, ◌∙◌, arith, append_assoc}
+use Rattle.std.proofs.Common.{◌≡◌, ◌<◌, ◌≤◌, ◌+◌, ◌-◌, ◌^◌, ℕ, Bool, false, inl, inr, max, List, [], ◌∷◌, ◌++◌, length, take, drop, refl, sym, ap, subst, ◌∙◌, arith, append_assoc}
 use Rattle.std.specs.Prelude.{IsNone, min, position}
 use Rattle.std.specs.List.{AllByRecursion}
-use Rattle.std.proofs.lemmas.List.{length-append, length-take, drop-append-le, drop-drop, take_at, take-append-drop}
+use Rattle.std.proofs.lemmas.List.{length-append, length-take, drop-append-le, drop-drop, take_at, take-append-drop, take-append-le}
+use Rattle.std.proofs.lemmas.Bool.{cases_lt}
 use Rattle.edge_core.specs.Device.{SinkState}
 use Rattle.frame_model.specs.declared.framing.Framing.{Framing}
 use Rattle.frame_model.specs.declared.framing.Framing.TheVariants.{Line}
@@ -11,15 +12,17 @@ use Rattle.frame_model.specs.Spelling.{head_of, is_line_feed, obstacle, spelling
 use Rattle.frame_model.specs.Cut.{Whole, front}
 use Rattle.frame_model.specs.Translation.{translation, behind}
 use Rattle.frame_model.proofs.FrameLemmas.{frame_at, spelling_len}
+use Rattle.frame_model.proofs.FrontLemmas.{line_from, line_len}
 use Rattle.frame_model.proofs.LongestLemmas.{front_again}
 use Rattle.frame_grammar.specs.Answers.{BeginsWithFrame, Tells, frame_of}
 use Rattle.frame_grammar.proofs.AnswerLemmas.{told}
-use Rattle.frame_fronts.specs.Fronts.{IsFront}
+use Rattle.frame_fronts.specs.Fronts.{HasNoFrame, IsFront}
 use Rattle.relay_model.specs.Run.{payloads_of}
 use Rattle.relay_engine.specs.declared.gathering.Passed.{Passed}
 use Rattle.relay_engine.specs.Frames.{Interrupts, Passes, capped}
 use Rattle.relay_engine.specs.Gathering.{Gathered, Puts, PutsFront, begun}
 use Rattle.relay_engine.specs.Spelling.{BreaksFrames, PutsFrames, SpellsFront}
+use Rattle.relay_engine.proofs.CleanLemmas.{before_line_feed}
 use Rattle.relay_engine.proofs.FrameLemmas.{capped_more, is_first, passes_more, passes_nothing}
 use Rattle.relay_engine.proofs.DeviceLemmas.{takes_nothing}
 use Rattle.relay_engine.proofs.GatherLemmas.{puts_more}
@@ -103,9 +106,19 @@ spelt_front job x old new s t passed same is = record {
     passed = rw is.gathered (omega arith);
   };
   counted = is.counted;
+  left = is.left;
+  within = omega (arith, is.unsearched);
+  searched = λ line. rw is.unsearched refl;
 }
 
 -- ---- frames that stay
+
+-- so many bytes have no line feed, where no line is whole
+none_before : (max : ℕ) (x : List ℕ) (n : ℕ) → HasNoFrame Line max x → n ≤ length x → n ≤ max → IsNone (position is_line_feed (take n x))
+none_before max x n none within few = elim (cases_lt (line_len x) n) [
+  | inl lt ↦ absurd (none _ _ (line_from max x _ _ (record { ends = omega (arith, lt, within); within = omega (arith, lt, few); payload = refl; rest = refl })))
+  | inr ge ↦ before_line_feed x n within ge
+]
 
 -- their text is they themselves
 pub stays : (job : Job) (x : List ℕ) (len frames : ℕ) (payloads : List (List ℕ)) → job.input ≡ job.output → IsFront job.input job.input job.max x len frames payloads → (at_end : Bool) → Passes job x at_end len frames (take len x)
@@ -116,15 +129,19 @@ stays job x len frames payloads same is at_end =
     let whole : text job.output payloads ≡ take len x = ap (λ (f : Framing). text f payloads) (sym same) ∙ sym itself in
     subst (λ (t : List ℕ). Passes job x at_end len frames t) whole passes
 
-pub passed_front : (job : Job) (x piece : List ℕ) (old new : Gathered) (s t : SinkState) (len frames : ℕ) (payloads : List (List ℕ)) → job.input ≡ job.output → IsFront job.input job.input job.max x len frames payloads
-    → piece ≡ take len x → Puts old s piece new t → PutsFrames job x old s (record { len = len; frames = frames; written = len }) new t
-passed_front job x piece old new s t len frames payloads same is piece_is puts =
+pub passed_front : (job : Job) (x piece : List ℕ) (old new : Gathered) (s t : SinkState) (len frames searched : ℕ) (payloads : List (List ℕ)) → job.input ≡ job.output → IsFront job.input job.input job.max x len frames payloads
+    → HasNoFrame job.input job.max (drop len x) → searched ≤ length (drop len x) → searched ≤ job.max → piece ≡ take len x → Puts old s piece new t
+    → PutsFrames job x old s (record { len = len; frames = frames; written = len; searched = searched }) new t
+passed_front job x piece old new s t len frames searched payloads same is none within few piece_is puts =
     let size : length (take len x) ≡ len = omega (arith, length-take len x, is.size, ap length is.parts, length-append (text job.input payloads) (drop len x)) in
     record {
       text = take len x;
       passes = stays job x len frames payloads same is;
       puts = rw piece_is at puts;
       counted = sym size;
+      left = λ p more e spelt small lane. absurd (none p more e);
+      within = within;
+      searched = λ line. none_before job.max (drop len x) searched (subst (λ (f : Framing). HasNoFrame f job.max (drop len x)) line none) within few;
     }
 
 pub broken_front : (job : Job) (x piece : List ℕ) (old new : Gathered) (s t : SinkState) (len frames : ℕ) (payloads : List (List ℕ)) → job.input ≡ job.output → IsFront job.input job.input job.max x len frames payloads
@@ -175,10 +192,30 @@ front_failed job x first at_end h i s t u n frames text small passes puts is bro
     (text_behind job (drop n x) at_end broken.len broken.frames broken.text there) (omega (arith, there.bounded, there.within)) broken.failed
 
 -- what is known of line feeds behind them
-pub known_is : (x : List ℕ) (f : Framing) (known len new : ℕ) → len ≤ length x → known ≤ length x → (f ≡ Line → IsNone (position is_line_feed (take known x))) → (len ≡ 0 → new ≡ known) → (0 < len → new ≡ 0)
+first_within : (x first : List ℕ) (len m : ℕ) → take (length first) x ≡ first → len ≤ length first → m ≤ length (drop len first) → (m ≤ length (drop len x)) × (take m (drop len x) ≡ take m (drop len first))
+first_within x first len m is within few =
+    let z = drop (length first) x in
+    let behind : drop len x ≡ drop len first ++ z = ap (λ (t : List ℕ). drop len t) (front_then x first is) ∙ drop-append-le len first z within in
+    (omega (arith, few, ap length behind, length-append (drop len first) z), ap (λ (t : List ℕ). take m t) behind ∙ take-append-le m (drop len first) z few)
+
+known_same : (x : List ℕ) (f : Framing) (m n : ℕ) → m ≡ n → (n ≤ length x) × (f ≡ Line → IsNone (position is_line_feed (take n x))) → (m ≤ length x) × (f ≡ Line → IsNone (position is_line_feed (take m x)))
+known_same x f m n same known = rw same known
+
+pub known_is : (x first : List ℕ) (f : Framing) (known len searched new : ℕ) → take (length first) x ≡ first → len ≤ length first → known ≤ length x → (f ≡ Line → IsNone (position is_line_feed (take known x)))
+    → searched ≤ length (drop len first) → (f ≡ Line → IsNone (position is_line_feed (take searched (drop len first)))) → (len ≡ 0 → new ≡ max known searched) → (0 < len → new ≡ searched)
     → (new ≤ length (drop len x)) × (f ≡ Line → IsNone (position is_line_feed (take new (drop len x))))
-known_is x f known zero new in_x within searched same none = rw (same refl) (within, searched)
-known_is x f known (suc n) new in_x within searched same none = rw (none (omega arith)) (omega arith, λ line. refl)
+known_is x first f known len searched new is in_first within none few clear same behind =
+    let there = first_within x first len searched is in_first few in
+    let more : (searched ≤ length (drop len x)) × (f ≡ Line → IsNone (position is_line_feed (take searched (drop len x)))) = (there.0, λ line. rw there.1 (clear line)) in
+    elim (cases_lt 0 len) [
+      | inl some ↦ known_same (drop len x) f new searched (behind some) more
+      | inr nothing ↦
+          let empty : len ≡ 0 = omega (arith, nothing) in
+          elim (cases_lt known searched) [
+            | inl lt ↦ known_same (drop len x) f new searched (omega (arith, same empty, lt)) more
+            | inr ge ↦ known_same (drop len x) f new known (omega (arith, same empty, ge)) (rw empty (within, none))
+          ]
+    ]
 
 -- a front of a front lies within the rest
 pub behind_rest : (rest first : List ℕ) (len : ℕ) → take (length first) rest ≡ first → len ≤ length first → len ≤ length rest

@@ -1,6 +1,6 @@
 //! The whole frames of some bytes, written as the output spells them.
 
-ghost use Rattle.std.specs.Prelude.{◌≡◌, ◌+◌, ◌<◌, ◌≤◌, ◌^◌, [], true, length, position, slice_range, take, ◌-◌, IsNone, IfOk, IfErr, OnErr};
+ghost use Rattle.std.specs.Prelude.{◌≡◌, ◌+◌, ◌<◌, ◌≤◌, ◌^◌, [], true, length, max, position, slice_range, take, ◌-◌, IsNone, IfOk, IfErr, OnErr};
 ghost use Rattle.frame_model.specs.Spelling.{is_line_feed, obstacle, spelling};
 ghost use Rattle.frame_model.specs.Translation.{translation};
 ghost use Rattle.span_seq.specs.Sequence.{bytes};
@@ -99,7 +99,7 @@ pub fn write_frames<C: Spans, K: Sink>(
     loop {
         let front = put_front(job, unsearched(&rest, known), gathering, sink)?;
         let rest_behind = rest.without_front(front.len as u64);
-        let known_behind = known_behind(known, front.len as u64);
+        let known_behind = known_behind(known, front);
         passed += front.len as u64;
         frames += front.frames;
         written = written.saturating_add(front.written as u64);
@@ -133,13 +133,16 @@ fn unsearched<'a, C: Spans>(rest: &Sequence<'a, C>, known: u64) -> &'a [u8]
     if known == 0 { rest.first() } else { &[] }
 }
 
-/// How many bytes were searched behind the first `len` of those of which the first `known` were.
+/// How many bytes behind a front were searched, where the first `known` of its bytes and those behind it were before.
 #[inline(always)]
-fn known_behind(known: u64, len: u64) -> u64
-    ensures same { len ≡ 0 → result ≡ known }
-    ensures none { 0 < len → result ≡ 0 }
+fn known_behind(known: u64, front: Passed) -> u64
+    ensures same { front.len ≡ 0 → result ≡ max known front.searched }
+    ensures behind { 0 < front.len → result ≡ front.searched }
 {
-    if len == 0 { known } else { 0 }
+    if front.len > 0 {
+        return front.searched as u64;
+    }
+    known.max(front.searched as u64)
 }
 
 /// Puts the whole frames at the front, as far as that needs no second look at them: those that stay as they are from where
@@ -178,6 +181,7 @@ fn pass_front<K: Sink>(
         len: front.len,
         frames: front.frames,
         written: front.len,
+        searched: (bytes.len() - front.len).min(job.max as usize),
     })
 }
 

@@ -1,6 +1,6 @@
 //! Small pieces, gathered until they are worth a call of a sink.
 
-ghost use Rattle.std.specs.Prelude.{◌≡◌, ◌+◌, ◌<◌, ◌≤◌, ℕ, [], ◌++◌, length, take, drop, OnErr, OnOk};
+ghost use Rattle.std.specs.Prelude.{◌≡◌, ◌+◌, ◌<◌, ◌≤◌, ℕ, [], ◌++◌, length, min, take, drop, OnErr, OnOk};
 ghost use Rattle.edge_core.specs.Device.{Takes, TakesFront};
 ghost use Rattle.span_seq.specs.Sequence.{bytes};
 ghost use Rattle.relay_engine.specs.Gathering.{Puts, PutsFront, begun, counted};
@@ -16,11 +16,13 @@ use std::marker::Model;
 const ROOM: usize = 8_192;
 
 /// How many bytes at the front of some others were passed over, in how many frames, and in how many bytes these were put.
+/// Where lines come in, so many bytes behind them are known to have no line feed.
 #[derive(Clone, Copy)]
 pub struct Passed {
     pub len: usize,
     pub frames: u64,
     pub written: usize,
+    pub searched: usize,
 }
 
 /// Bytes on their way to a sink, behind all that came to it since the gathering began.
@@ -119,6 +121,7 @@ impl Gathering {
             len: spelt.len,
             frames: spelt.frames,
             written: spelt.end - at,
+            searched: 0,
         }
     }
 
@@ -180,7 +183,7 @@ impl Gathering {
 // How many bytes a payload has at most that is copied, and not handed on in place.
 #[inline(always)]
 fn copied_at_most(max: u64) -> u64
-    ensures { result ≤ max }
+    ensures { result ≡ min max 4095 }
 {
     max.min(ROOM as u64 / 2 - 1)
 }

@@ -2,7 +2,7 @@
 use Rattle.std.proofs.Common.{◌+◌, [], refl, ◌∙◌, arith}
 use Rattle.span_seq.specs.Sequence.{bytes}
 use Rattle.relay_engine.proofs.FrameLemmas.{passes_nothing}
-use Rattle.relay_engine.proofs.FrontLemmas.{behind_rest, front_failed, front_more, rest_is}
+use Rattle.relay_engine.proofs.FrontLemmas.{behind_rest, front_failed, front_more, known_is, rest_is}
 use Rattle.relay_engine.proofs.GatherLemmas.{on_err, puts_nothing}
 use Rattle.relay_engine.proofs.WriteLemmas.{drained, interrupted_behind, interrupted_within, one_more}
 use Rattle.relay_engine.proofs.frames.write_frames.Goals as goal
@@ -29,6 +29,20 @@ pub without_front-rest_behind-requires : goal.without_front-rest_behind-requires
 without_front-rest_behind-requires g c =
     let so_far = c.loop-front.invariant in
     behind_rest (bytes c.loop-front.rest) c.unsearched.result.now c.in_ok-front.front.len c.unsearched.ensures (c.in_ok-front.ensures.put.passes c.args.at_end).within
+
+pub first_frame-requires-clause-within : goal.first_frame-requires-clause-within
+first_frame-requires-clause-within g c =
+    let put = c.in_ok-front.ensures.put in
+    let front = c.in_ok-front.front in
+    let known = known_is (bytes c.loop-front.rest) c.unsearched.result.now c.args.job.now.input c.loop-front.known front.len front.searched c.known_behind-known_behind.result c.unsearched.ensures (put.passes c.args.at_end).within c.loop-front.invariant.within c.loop-front.invariant.searched put.within put.searched c.known_behind-known_behind.ensures.same c.known_behind-known_behind.ensures.behind in
+    rw c.without_front-rest_behind.ensures.bytes known.0
+
+pub first_frame-requires-clause-searched : goal.first_frame-requires-clause-searched
+first_frame-requires-clause-searched g c =
+    let put = c.in_ok-front.ensures.put in
+    let front = c.in_ok-front.front in
+    let known = known_is (bytes c.loop-front.rest) c.unsearched.result.now c.args.job.now.input c.loop-front.known front.len front.searched c.known_behind-known_behind.result c.unsearched.ensures (put.passes c.args.at_end).within c.loop-front.invariant.within c.loop-front.invariant.searched put.within put.searched c.known_behind-known_behind.ensures.same c.known_behind-known_behind.ensures.behind in
+    rw c.without_front-rest_behind.ensures.bytes known.1
 
 pub overflow_add-frames : goal.overflow_add-frames
 overflow_add-frames g c =
