@@ -1,4 +1,5 @@
 mod CleanLemmas
 mod CopyLemmas
 mod LineLemmas
+mod TranslationLemmas
 pub mod FrontLemmas

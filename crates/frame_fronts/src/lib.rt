@@ -4,6 +4,7 @@
 mod clean;
 mod copy;
 mod front;
+mod laws;
 mod lines;
 mod place;
 mod spell;
@@ -11,4 +12,5 @@ mod spell;
 mod tests;
 
 pub use front::{Front, whole_front};
+pub use laws::front_is_translated;
 pub use spell::{Spelt, spell_front};
