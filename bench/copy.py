@@ -1,11 +1,17 @@
 #!/usr/bin/env python3
-"""How long `relay copy` takes, beside two yardsticks in the same run: `buffered.rs`, with the buffered reader and writer of
+"""How fast `relay copy` is beside two yardsticks in the same run: `buffered.rs`, with the buffered reader and writer of
 Rust's library, and `tuned.c`, by hand. From a file to the null device, and through pipes.
 
     python3 bench/copy.py [MEGABYTES [KEY=VALUE ..]]
 
-wants `crates/relay/out/relay`, `rustc` and `cc`. Each line is a translation and a payload's length, and the least time of
-`relay` over the least time of each yardstick. The keys are given to `relay`.
+wants `crates/relay/out/relay`, `rustc` and `cc`. Each line is a translation and a payload's length, and the speed of `relay`
+over that of each yardstick: the quotient of the medians of rounds in which all three run in turn. Above 1 `relay` is faster.
+The keys are given to `relay`.
+
+    python3 bench/copy.py tables [MEGABYTES]
+
+writes the same, with the default keys and with large segments, into the tables of docs/ARCHITECTURE.md and README.md, and
+prints them.
 
     python3 bench/copy.py pump [MEGABYTES]
 
@@ -25,6 +31,8 @@ the least time of each in seconds, and the time of one worker over that of four.
 
 import hashlib
 import os
+import re
+import statistics
 import subprocess
 import sys
 import tempfile
@@ -35,13 +43,19 @@ sys.path.insert(0, os.path.join(HERE, "..", "checks"))
 import model
 
 RELAY = os.path.join(HERE, "..", "crates", "relay", "out", "relay")
-ROUNDS = 5
+ROUNDS = 9
 # With two threads the times of single runs differ more.
 ROUNDS_ON_TWO = 30
-TRANSLATIONS = [("line", "len4"), ("len4", "line"), ("len4", "len4"), ("line", "line")]
-PAYLOADS = [12, 80, 1024, 60000]
+FRAMINGS = ["len4", "len2", "line"]
+LONGER = [("line", "len4"), ("len4", "line"), ("len4", "len4"), ("line", "line")]
+ROWS = [(source, sink, payload) for source in FRAMINGS for sink in FRAMINGS for payload in (12, 80)]
+ROWS += [(source, sink, payload) for source, sink in LONGER for payload in (1024, 60000)]
+LARGE = ["seg=65536", "pause=1048576", "resume=524288"]
 KEYS = [["seg=4096"], ["seg=65536", "pause=1048576"]]
 FILES = 8
+ROUNDS_OF_BATCH = 5
+# The rows of the README's table, with large segments.
+SHORT = [("len4", "line", 12), ("len4", "line", 80), ("line", "len4", 80), ("len4", "len4", 80), ("len4", "len4", 60000)]
 
 
 def build(folder):
@@ -56,7 +70,10 @@ def build(folder):
 def write_input(path, framing, payload, size):
     """A file of so many bytes at least, of frames whose payloads have that length."""
     body = (b"abcdefghijklmnopqrstuvwxyz0123456789" * (payload // 36 + 1))[:payload]
-    frame = body + b"\n" if framing == "line" else payload.to_bytes(4, "big") + body
+    if framing == "line":
+        frame = body + b"\n"
+    else:
+        frame = payload.to_bytes(4 if framing == "len4" else 2, "big") + body
     chunk = frame * max(1, 1_000_000 // len(frame))
     with open(path, "wb") as file:
         for _ in range(-(-size // len(chunk))):
@@ -90,7 +107,7 @@ def digest(words, path):
         return found
 
 
-def least_times(run, programs, path, rounds=ROUNDS):
+def least_times(run, programs, path, rounds):
     least = [float("inf")] * len(programs)
     for _ in range(rounds):
         for i, words in enumerate(programs):
@@ -148,8 +165,67 @@ def batch_by_workers(size):
         for outputs in ("files", "the null device"):
             if outputs != "files":
                 link_outputs(folder, names)
-            one, four = least_times(batch_time, programs, folder)
+            one, four = least_times(batch_time, programs, folder, ROUNDS_OF_BATCH)
             print(f"{outputs:16}{one:10.3f}{four:11.3f}{one / four:8.2f}", flush=True)
+
+
+def speeds(run, programs, path):
+    """The speed of the first program over that of each other one."""
+    times = [[] for _ in programs]
+    for _ in range(ROUNDS):
+        for i, words in enumerate(programs):
+            times[i].append(run(words, path))
+    first, *others = [statistics.median(found) for found in times]
+    return [other / first for other in others]
+
+
+def measure(size, keys):
+    """Each row with its four speeds, as they are found."""
+    with tempfile.TemporaryDirectory() as folder:
+        buffered, tuned = build(folder)
+        path = os.path.join(folder, "input")
+        for source, sink, payload in sorted(ROWS, key=lambda row: (FRAMINGS.index(row[0]), FRAMINGS.index(row[1]), row[2])):
+            write_input(path, source, payload, size)
+            programs = [[RELAY, "copy", source, sink, *keys], [buffered, source, sink], [tuned, source, sink]]
+            assert len({digest(words, path) for words in programs}) == 1
+            found = speeds(file_to_null, programs, path) + speeds(through_pipes, programs, path)
+            yield (source, sink, payload), found
+
+
+def print_rows(size, keys):
+    print(f"{'translation':16}{'payload':>8}  {'file: buffered':>15}{'tuned':>7}  {'pipes: buffered':>16}{'tuned':>7}")
+    for (source, sink, payload), found in measure(size, keys):
+        print(f"{source + ' to ' + sink:16}{payload:8}  {found[0]:15.2f}{found[1]:7.2f}  {found[2]:16.2f}{found[3]:7.2f}", flush=True)
+
+
+def table(rows):
+    lines = ["| Translation | Payload | File, `buffered` | File, `tuned` | Pipes, `buffered` | Pipes, `tuned` |", "|---|---|---|---|---|---|"]
+    for (source, sink, payload), found in rows:
+        cells = " | ".join(f"{speed:.2f}" for speed in found)
+        lines.append(f"| `{source}` to `{sink}` | {payload:,} | {cells} |")
+    return "\n".join(lines)
+
+
+def replace_table(page, name, text):
+    """Puts a table between the two marks that have its name."""
+    path = os.path.join(HERE, "..", page)
+    begin, end = f"<!-- bench: {name} -->\n", f"<!-- bench: end of {name} -->"
+    with open(path) as file:
+        whole = file.read()
+    found, count = re.subn(re.escape(begin) + ".*?" + re.escape(end), lambda _: begin + text + "\n" + end, whole, flags=re.S)
+    assert count == 1, (page, name)
+    with open(path, "w") as file:
+        file.write(found)
+
+
+def write_tables(size):
+    for name, keys in (("default", []), ("large", LARGE)):
+        rows = list(measure(size, keys))
+        replace_table("docs/ARCHITECTURE.md", name, table(rows))
+        print(f"{name}\n\n{table(rows)}\n", flush=True)
+    short = [row for row in rows if row[0] in SHORT]
+    replace_table("README.md", "short", table(short))
+    print(f"short\n\n{table(short)}")
 
 
 def main():
@@ -162,26 +238,10 @@ def main():
     if sys.argv[1:2] == ["pump"]:
         pump_beside_copy(int(sys.argv[2] if len(sys.argv) > 2 else "200") * 1_000_000)
         return
-    size = int(sys.argv[1] if len(sys.argv) > 1 else "100") * 1_000_000
-    keys = sys.argv[2:]
-    with tempfile.TemporaryDirectory() as folder:
-        buffered, tuned = build(folder)
-        path = os.path.join(folder, "input")
-        print(f"{'translation':16}{'payload':>8}  {'file: buffered':>15}{'tuned':>7}  {'pipes: buffered':>16}{'tuned':>7}")
-        for source, sink in TRANSLATIONS:
-            for payload in PAYLOADS:
-                write_input(path, source, payload, size)
-                programs = [
-                    [RELAY, "copy", source, sink, *keys],
-                    [buffered, source, sink],
-                    [tuned, source, sink],
-                ]
-                assert len({digest(words, path) for words in programs}) == 1
-                ratios = []
-                for run in (file_to_null, through_pipes):
-                    least = least_times(run, programs, path)
-                    ratios += [least[0] / least[1], least[0] / least[2]]
-                print(f"{source + ' to ' + sink:16}{payload:8}  {ratios[0]:15.2f}{ratios[1]:7.2f}  {ratios[2]:16.2f}{ratios[3]:7.2f}", flush=True)
+    if sys.argv[1:2] == ["tables"]:
+        write_tables(int(sys.argv[2] if len(sys.argv) > 2 else "100") * 1_000_000)
+        return
+    print_rows(int(sys.argv[1] if len(sys.argv) > 1 else "100") * 1_000_000, sys.argv[2:])
 
 
 if __name__ == "__main__":
