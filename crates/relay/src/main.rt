@@ -8,6 +8,7 @@ use help::{HELP, VERSION};
 use relay_top::relay_main;
 use socket_edge::RealDoors;
 use std::alloc::Global;
+use std::io::BufReader;
 use std::process::ExitCode;
 use std::sync::Wait;
 use std::thread::Threads;
@@ -16,19 +17,25 @@ use std::{env, io};
 /// The status of words that can't be had as text, or are too many.
 const USAGE: u8 = 1;
 
+/// How many bytes of standard input are asked for at once.
+const READ_AHEAD: usize = 65_536;
+
 /// So many words are too many for a command.
 const TOO_MANY: usize = 1 << 32;
 
 /// The status where a text can't be written to standard output.
 const WRITE_FAULT: u8 = 5;
 
-/// The status where there is no memory for the words.
+/// The status where there is no memory for the words or for the buffer of standard input.
 const OUT_OF_MEMORY: u8 = 6;
 
 fn main(rt: HostRuntime) -> ExitCode {
-    let mut input = ReadEdge::new(rt.stdin());
     let mut output = WriteEdge::new(rt.stdout());
     let mut faults = WriteEdge::new(rt.stderr());
+    let Ok(stdin) = BufReader::with_capacity(rt.alloc(), READ_AHEAD, rt.stdin()) else {
+        return ExitCode::from(tell(&mut faults, "out of memory\n", OUT_OF_MEMORY));
+    };
+    let mut input = ReadEdge::new(stdin);
     let mut doors = RealDoors::new(rt);
     let status = match words(&rt) {
         Ok(words) => run(
