@@ -12,7 +12,7 @@ use crate::gathering::{Gathering, Passed};
 use edge_core::{Failed, Sink};
 use frame_fronts::whole_front;
 use frame_grammar::{BadKind, Cut, Framing, Job, can_spell, next_frame, spell_head, spell_tail};
-use span_seq::{Byte, One, Sequence, Spans};
+use span_seq::{One, Sequence, Spans};
 
 /// Why no further frame is passed on.
 #[derive(Clone, Copy, Debug, PartialEq, Eq)]
