@@ -6,8 +6,6 @@ mod cutter;
 mod line_feed;
 mod segments;
 mod spelling;
-#[cfg(test)]
-mod tests;
 
 pub use affix::Affix;
 pub use cutter::{Cut, next_frame};

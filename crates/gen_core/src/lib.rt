@@ -6,8 +6,6 @@ mod frame;
 mod laws;
 mod payload;
 mod source;
-#[cfg(test)]
-mod tests;
 
 pub use cases::generator_cases;
 pub use laws::{generated_has_no_rest, generated_is_small, generated_is_spellable};

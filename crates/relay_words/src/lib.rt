@@ -7,8 +7,6 @@ mod command;
 mod keys;
 mod names;
 mod number;
-#[cfg(test)]
-mod tests;
 mod words;
 
 pub use cases::{batch_cases, number_cases, word_cases};

@@ -5,8 +5,6 @@ mod cases;
 mod numbers;
 mod reader;
 mod searches;
-#[cfg(test)]
-mod tests;
 
 pub use cases::{number_cases, rest_cases, search_cases};
 pub use reader::SeqReader;

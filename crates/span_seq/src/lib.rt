@@ -7,8 +7,6 @@ mod search;
 mod sequence;
 mod span_iter;
 mod spans;
-#[cfg(test)]
-mod tests;
 mod walk;
 
 pub use cases::{bytes_cases, spans_cases};

@@ -2,7 +2,7 @@
 
 ghost use Rattle.std.specs.Prelude.{[], ◌∷◌};
 
-use crate::*;
+use frame_grammar::*;
 use span_seq::{One, Sequence, Spans};
 use std::process::Abort;
 

@@ -1,8 +1,8 @@
 //! Small inputs, read in pieces.
 
-use crate::{GenSource, gen_len};
 use edge_core::Source;
 use frame_grammar::Framing;
+use gen_core::{GenSource, gen_len};
 use std::alloc::{AllocError, Global};
 use std::test::Fail;
 

@@ -1,7 +1,7 @@
 //! What words are read as.
 
-use crate::*;
 use frame_grammar::{Framing, Job};
+use relay_words::*;
 use std::alloc::{AllocError, Global};
 use std::fmt::Write;
 use std::test::Fail;

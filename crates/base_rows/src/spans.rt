@@ -2,7 +2,7 @@
 
 ghost use Rattle.std.specs.Prelude.{[], ◌∷◌};
 
-use crate::*;
+use span_seq::*;
 use std::process::Abort;
 use std::test::Fail;
 

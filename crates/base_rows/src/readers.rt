@@ -2,8 +2,8 @@
 
 ghost use Rattle.std.specs.Prelude.{[], ◌∷◌};
 
-use crate::*;
 use byte_kernels::ByteSet;
+use seq_reader::*;
 use span_seq::{Many, One, Sequence, Spans};
 use std::process::Abort;
 use std::test::Fail;
