@@ -30,10 +30,3 @@ pub use lines::{Told, tell};
 pub use pipe_drainer::{DrainStep, Drainer, drain};
 pub use pipe_filler::{FillStep, Filler};
 pub use pump::{options_of, pump_local};
-
-#[cfg(test)]
-mod drain_tests;
-#[cfg(test)]
-mod fill_tests;
-#[cfg(test)]
-mod tests;

@@ -4,11 +4,11 @@ ghost use Rattle.std.specs.Prelude.{◌≡◌, [], None, IfSome, IsSomeAnd};
 ghost use Rattle.turn_cell.specs.Seat.{IsIdle, IsOf};
 ghost use Rattle.relay_engine.specs.PipeDrainer.{IsDraining, IsOfPipe, OwesNothing};
 
-use crate::{DrainEnd, DrainStep, Drainer, drain};
 use edge_core::MemSink;
 use frame_model::{BadKind, Framing, Job};
 use pipe_core::{FlushReply, Wake};
 use pipe_shared::{FlushFault, Made, Options, Pipe, WriterDone, WriterEnd};
+use relay_engine::{DrainEnd, DrainStep, Drainer, drain};
 use std::alloc::{AllocError, Global};
 use std::sync::Wait;
 use std::test::Fail;

@@ -3,9 +3,9 @@
 ghost use Rattle.std.specs.Prelude.{◌≤◌, ◌^◌};
 ghost use Rattle.frame_model.specs.Job.{IsInRange};
 
-use crate::{DrainEnd, Told, outcome_of, pump_local, status_of, tell};
 use edge_core::{MemSink, MemSource};
 use frame_model::{BadKind, FillEnd, Framing, Job, Outcome, Report};
+use relay_engine::{DrainEnd, Told, outcome_of, pump_local, status_of, tell};
 use std::alloc::{AllocError, Global};
 use std::test::Fail;
 
@@ -34,8 +34,13 @@ fn source(alloc: Global, content: &[u8], failing_calls: &[u64]) -> Result<MemSou
     ))
 }
 
-fn sink(alloc: Global, failing_calls: &[u64]) -> Result<MemSink, AllocError> {
-    MemSink::make(alloc, 64, Vec::new(alloc), failing_calls.to_vec(alloc)?)
+fn sink_with(alloc: Global, caps: &[usize], failing_call: u64) -> Result<MemSink, AllocError> {
+    MemSink::make(
+        alloc,
+        64,
+        caps.to_vec(alloc)?,
+        [failing_call].to_vec(alloc)?,
+    )
 }
 
 const BAD_FRAME: Outcome = Outcome::BadFrame {
@@ -52,6 +57,33 @@ fn report(outcome: Outcome, frames: u64, taken: u64, written: u64) -> Report {
     }
 }
 
+/// What a relay of `len4` to lines reports that takes at most `limit` bytes.
+fn relay(
+    alloc: Global,
+    limit: u64,
+    source: &mut MemSource,
+    sink: &mut MemSink,
+) -> Result<Report, AllocError> {
+    let job = job(Framing::Len4, Framing::Line, limit.min(1_000));
+    pump_local(alloc, source, sink, &job)
+}
+
+/// The same where a call of the source and one of the sink fail, with what the sink has. No call has the number 0. A sink
+/// with `caps` takes that many bytes by each of its first calls.
+fn relayed(
+    alloc: Global,
+    limit: u64,
+    input: &[u8],
+    failing_read: u64,
+    caps: &[usize],
+    failing_write: u64,
+) -> Result<(Report, MemSink), AllocError> {
+    let mut source = source(alloc, input, &[failing_read])?;
+    let mut sink = sink_with(alloc, caps, failing_write)?;
+    let report = relay(alloc, limit, &mut source, &mut sink)?;
+    Ok((report, sink))
+}
+
 #[test]
 fn a_relay_takes_no_more_than_its_limit(rt: HostRuntime) -> Result<(), Fail> {
     let alloc = rt.alloc();
@@ -61,10 +93,8 @@ fn a_relay_takes_no_more_than_its_limit(rt: HostRuntime) -> Result<(), Fail> {
         (0, report(Outcome::TooLong, 0, 0, 0), b""),
     ];
     for (limit, told, text) in cases {
-        let mut source = source(alloc, TWO_FRAMES, &[])?;
-        let mut sink = sink(alloc, &[])?;
-        let job = job(Framing::Len4, Framing::Line, limit);
-        assert_eq!(rt; pump_local(alloc, &mut source, &mut sink, &job)?, told);
+        let (report, sink) = relayed(alloc, limit, TWO_FRAMES, 0, &[], 0)?;
+        assert_eq!(rt; report, told);
         assert_eq!(rt; sink.bytes(), text);
     }
     Ok(())
@@ -87,11 +117,7 @@ fn a_sink_is_flushed_once_before_an_end(rt: HostRuntime) -> Result<(), Fail> {
         (&[0, 1, 0, 1], 1_000, 2, BAD_FRAME, 0),
     ];
     for (input, limit, failing_call, outcome, frames) in cases {
-        let mut source = source(alloc, input, &[])?;
-        let mut sink = sink(alloc, &[failing_call])?;
-        assert!(rt; limit <= 1_000);
-        let job = job(Framing::Len4, Framing::Line, limit);
-        let report = pump_local(alloc, &mut source, &mut sink, &job)?;
+        let (report, _) = relayed(alloc, limit, input, 0, &[], failing_call)?;
         assert_eq!(rt; (report.outcome, report.frames), (outcome, frames));
     }
     Ok(())
@@ -108,10 +134,8 @@ fn a_read_that_fails_ends_the_taking(rt: HostRuntime) -> Result<(), Fail> {
         (3, report(Outcome::Clean, 20, 80, 20)),
     ];
     for (failing_call, told) in cases {
-        let mut source = source(alloc, &empty_frames, &[failing_call])?;
-        let mut sink = sink(alloc, &[])?;
-        let job = job(Framing::Len4, Framing::Line, 1_000);
-        assert_eq!(rt; pump_local(alloc, &mut source, &mut sink, &job)?, told);
+        let (report, _) = relayed(alloc, 1_000, &empty_frames, failing_call, &[], 0)?;
+        assert_eq!(rt; report, told);
     }
     Ok(())
 }
@@ -121,14 +145,22 @@ fn a_frame_that_was_broken_off_is_not_counted(rt: HostRuntime) -> Result<(), Fai
     let alloc = rt.alloc();
     let cases: [(u64, u64, u64); 5] = [(1, 0, 0), (2, 0, 1), (3, 0, 2), (4, 1, 3), (5, 1, 4)];
     for (failing_call, frames, written) in cases {
-        let mut source = source(alloc, TWO_FRAMES, &[])?;
-        let caps = [1, 1, 1, 1, 1].to_vec(alloc)?;
-        let mut sink = MemSink::make(alloc, 64, caps, [failing_call].to_vec(alloc)?)?;
-        let job = job(Framing::Len4, Framing::Line, 1_000);
-        let told = report(Outcome::WriteFault, frames, 11, written);
-        assert_eq!(rt; pump_local(alloc, &mut source, &mut sink, &job)?, told);
+        let (told, _) = relayed(alloc, 1_000, TWO_FRAMES, 0, &[1; 5], failing_call)?;
+        assert_eq!(rt; told, report(Outcome::WriteFault, frames, 11, written));
     }
     Ok(())
+}
+
+fn relay_of_lines(
+    alloc: Global,
+    source: &mut MemSource,
+    sink: &mut MemSink,
+) -> Result<Report, AllocError> {
+    let job = Job {
+        seg: 65_536,
+        ..job(Framing::Line, Framing::Len4, 1 << 20)
+    };
+    pump_local(alloc, source, sink, &job)
 }
 
 /// What a relay of lines to `len4` reports whose input is read at once and whose sink fails at that call.
@@ -136,11 +168,7 @@ fn report_of_lines(alloc: Global, content: &[u8], failing_call: u64) -> Result<R
     let mut source = source(alloc, content, &[])?;
     let fails = [failing_call].to_vec(alloc)?;
     let mut sink = MemSink::make(alloc, 65_536, Vec::new(alloc), fails)?;
-    let job = Job {
-        seg: 65_536,
-        ..job(Framing::Line, Framing::Len4, 1 << 20)
-    };
-    pump_local(alloc, &mut source, &mut sink, &job)
+    relay_of_lines(alloc, &mut source, &mut sink)
 }
 
 /// The last call is the flush.
@@ -184,7 +212,6 @@ fn a_large_payload_costs_a_call(rt: HostRuntime) -> Result<(), Fail> {
 
 #[test]
 fn an_outcome_has_an_order_a_status_and_a_line(rt: HostRuntime) -> Result<(), Fail> {
-    let alloc = rt.alloc();
     let bad = DrainEnd::Bad {
         place: 5,
         kind: BadKind::Unspellable { at: 1 },
@@ -221,28 +248,27 @@ fn an_outcome_has_an_order_a_status_and_a_line(rt: HostRuntime) -> Result<(), Fa
     for (fill, drain, status, line) in cases {
         let outcome = outcome_of(fill, drain);
         assert_eq!(rt; status_of(outcome), status);
-        let mut faults = sink(alloc, &[])?;
-        let told = Told::Relay {
-            report: report(outcome, 1, 7, 4),
-        };
-        assert_eq!(rt; tell(&mut faults, told), Ok(()));
-        assert_eq!(rt; faults.bytes(), line);
+        let report = report(outcome, 1, 7, 4);
+        assert!(rt; tells(rt.alloc(), Told::Relay { report }, line)?);
     }
     Ok(())
 }
 
+/// Whether this is told so.
+fn tells(alloc: Global, told: Told, line: &[u8]) -> Result<bool, AllocError> {
+    let mut faults = sink_with(alloc, &[], 0)?;
+    Ok(tell(&mut faults, told).is_ok() && faults.bytes() == line)
+}
+
 #[test]
 fn other_lines(rt: HostRuntime) -> Result<(), Fail> {
-    let alloc = rt.alloc();
     let cases: [(Told, &[u8]); 3] = [
         (Told::Usage { word: 0 }, b"usage: word 0\n"),
         (Told::Memory, b"out of memory\n"),
         (Told::Door { word: 12 }, b"door fault at word 12\n"),
     ];
     for (told, line) in cases {
-        let mut faults = sink(alloc, &[])?;
-        assert_eq!(rt; tell(&mut faults, told), Ok(()));
-        assert_eq!(rt; faults.bytes(), line);
+        assert!(rt; tells(rt.alloc(), told, line)?);
     }
     Ok(())
 }

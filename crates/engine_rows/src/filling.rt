@@ -1,15 +1,14 @@
-//! A filler in steps and as a whole, on a pipe of two threads and on one of one.
+//! A filler in steps and as a whole, on a pipe of two threads.
 
 ghost use Rattle.std.specs.Prelude.{IfSome};
 ghost use Rattle.turn_cell.specs.Seat.{IsIdle, IsOf};
 ghost use Rattle.relay_engine.specs.PipeFiller.{IsUnused};
 
-use crate::filling::{Filled, Filling};
-use crate::{FillStep, Filler, fill};
 use edge_core::{MemSource, Source};
 use frame_model::FillEnd;
 use pipe_core::ReadReply;
-use pipe_shared::{LocalPipe, Options, Pipe, ReaderEnd};
+use pipe_shared::{Options, Pipe, ReaderEnd};
+use relay_engine::{FillStep, Filler, fill};
 use std::alloc::{AllocError, Global};
 use std::test::Fail;
 
@@ -166,16 +165,5 @@ fn a_whole_side_runs_until_its_source_ends(rt: HostRuntime) -> Result<(), Fail> 
     let (end, _writer, taken) = fill(&rt, &pipe, filler, &mut source);
     assert_eq!(rt; (end, taken), (FillEnd::End, 100));
     assert_eq!(rt; consume(&pipe, &mut reader), Some((100, Some(0))));
-    Ok(())
-}
-
-#[test]
-fn the_same_step_fills_a_pipe_for_one_thread(rt: HostRuntime) -> Result<(), Fail> {
-    let mut source = source(rt.alloc(), 65, &[])?;
-    let mut pipe = LocalPipe::make(rt.alloc(), PAUSING)?;
-    let mut filling = Filling::new(65);
-    let filled = filling.step(&(), &mut pipe, &mut source);
-    assert_eq!(rt; filled, Ok(Filled::Paused { unexamined: 64 }));
-    assert_eq!(rt; filling.taken(), 64);
     Ok(())
 }
