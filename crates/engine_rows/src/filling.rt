@@ -7,7 +7,7 @@ ghost use Rattle.relay_engine.specs.PipeFiller.{IsUnused};
 use edge_core::{MemSource, Source};
 use frame_model::FillEnd;
 use pipe_core::ReadReply;
-use pipe_shared::{Options, Pipe, ReaderEnd};
+use pipe_shared::{Full, Options, Pipe, ReaderEnd};
 use relay_engine::{FillStep, Filler, fill};
 use std::alloc::{AllocError, Global};
 use std::test::Fail;
@@ -71,7 +71,7 @@ fn consume(pipe: &Pipe, r: &mut ReaderEnd) -> Option<(u64, Option<u32>)>
             if !r.lending() {
                 return None;
             }
-            let len = r.lent().len() as u64;
+            let len = r.lent().len();
             pipe.try_advance(r, len, len).ok()?;
             Some((len, ended))
         }
@@ -97,11 +97,11 @@ fn a_full_pipe_takes_more_once_it_is_read(rt: HostRuntime) -> Result<(), Fail> {
     let (pipe, mut filler, mut reader) = make(&rt, SMALL, 200).ok_or("memory")?;
     assert_eq!(rt; step(&pipe, &mut filler, &mut source), moved(64));
     assert_eq!(rt; step(&pipe, &mut filler, &mut source), moved(64));
-    let full = FillStep::Full {
+    let full = FillStep::Full(Full {
         held: 128,
         draft: 0,
         capacity: 128,
-    };
+    });
     assert_eq!(rt; step(&pipe, &mut filler, &mut source), Some(full));
     assert_eq!(rt; consume(&pipe, &mut reader), Some((128, None)));
     assert_eq!(rt; step(&pipe, &mut filler, &mut source), moved(2));

@@ -1,3 +1,4 @@
+pub mod ExaminedLemmas
 pub mod PauseLemmas
 pub mod RunLemmas
 pub mod OrderLemmas

@@ -1,9 +1,9 @@
 -- What a pipe keeps for its reader, call by call.
-use Rattle.std.proofs.Common.{◌≡◌, ◌≢◌, ◌≤◌, ◌+◌, ◌^◌, ℕ, Bool, true, false, cond, List, [], ◌∷◌, ◌++◌, length, take, drop, refl, sym, ap, subst, ◌∙◌, arith, Option, Some, None, append-nil}
-use Rattle.std.specs.Prelude.{is_some, is_none, IsNone, option_map}
+use Rattle.std.proofs.Common.{◌≡◌, ◌≢◌, ◌≤◌, ◌+◌, ◌^◌, ℕ, Bool, true, false, cond, List, [], ◌∷◌, ◌++◌, length, take, drop, refl, sym, ap, subst, ◌∙◌, arith, Option, Some, None}
+use Rattle.std.specs.Prelude.{is_some, is_none, IsNone, IsSome, option_map, unwrap_or}
 use Rattle.std.proofs.Math.Bool.{or-false}
-use Rattle.std.proofs.lemmas.List.{length-append, length-drop, drop-drop, drop_all, drop-append-le, take-append-le, take_all}
-use Rattle.pipe_core.specs.History.{Run, Call, Commit, EndWriter, Read, Advance, EndReader, CancelRead, CancelFlush, bytes_of, reader_end}
+use Rattle.std.proofs.lemmas.List.{length-append, length-drop, length-take, drop-drop, drop_all, drop-append-le, take-append-le, take_all}
+use Rattle.pipe_core.specs.History.{Run, Call, Commit, EndWriter, Read, Advance, EndReader, CancelRead, CancelFlush, bytes_of, reader_end, closing, AreRunsOf}
 use Rattle.pipe_core.specs.Progress.{total, consumed, held}
 use Rattle.pipe_core.specs.Reads.{read_is_ready}
 use Rattle.pipe_core.specs.Lends.{lend}
@@ -12,14 +12,10 @@ use Rattle.pipe_core.specs.declared.reply.Wake.{Wake}
 use Rattle.pipe_core.specs.declared.reply.FlushReply.{FlushReply}
 use Rattle.pipe_core.specs.Wakes.{wake_of, either_wake}
 use Rattle.pipe_core.specs.Answers.{Answer, Flushed, Woke}
-use Rattle.pipe_core.specs.Standing.{MayAdvance, Answers}
+use Rattle.pipe_core.specs.Standing.{MayAdvance, Thresholds, thresholds_of, ControlAnswers}
 use Rattle.pipe_core.specs.Bytes.{Bytes, capacity_of, settled, with_committed}
-use Rattle.pipe_core.specs.Pipe.{Pipe, kept, HoldsFor, runs_of, closing, PipeAnswers, PipeCloses}
+use Rattle.pipe_core.specs.Pipe.{Pipe, kept, HoldsFor, Made, made_of, PipeAnswers}
 use Rattle.pipe_core.proofs.OrderLemmas.{ordered, total_commit}
-
-pub bytes_of_runs : (draft : List ℕ) → bytes_of (runs_of draft) ≡ draft
-bytes_of_runs [] = refl
-bytes_of_runs (b ∷ bytes) = append-nil (b ∷ bytes)
 
 given_up : (b : Bool) (c n : ℕ) (xs : List ℕ) → drop c (cond b (drop n xs) []) ≡ cond b (drop (n + c) xs) []
 given_up true c n xs = drop-drop c n xs
@@ -36,13 +32,13 @@ held_commit runs h legal =
     ∙ drop-append-le (consumed h) (total h) (cond (is_none (reader_end h)) (bytes_of runs) []) (ordered h legal).consumed_in
 
 -- what a buffer holds once its draft is settled
-pub settled_holds : (b : Bytes) (h : List Call) (dropped : Bool) → dropped ≡ is_some (reader_end h) → IsLegal h → b.held ≡ kept h → (settled dropped b).held ≡ kept (Commit (runs_of b.draft) ∷ h)
-settled_holds b h dropped is legal holds = rw is (each (reader_end h) (held_commit (runs_of b.draft) h legal) holds)
+pub settled_holds : (b : Bytes) (runs : List Run) (h : List Call) (dropped : Bool) → bytes_of runs ≡ b.draft → dropped ≡ is_some (reader_end h) → IsLegal h → b.held ≡ kept h → (settled dropped b).held ≡ kept (Commit runs ∷ h)
+settled_holds b runs h dropped drafted is legal holds = rw is (each (reader_end h) (held_commit runs h legal) holds)
   where
-    each : (o : Option ℕ) → held (Commit (runs_of b.draft) ∷ h) ≡ held h ++ cond (is_none o) (bytes_of (runs_of b.draft)) [] → b.held ≡ cond (is_none o) (held h) []
-        → (settled (is_some o) b).held ≡ cond (is_none o) (held (Commit (runs_of b.draft) ∷ h)) []
+    each : (o : Option ℕ) → held (Commit runs ∷ h) ≡ held h ++ cond (is_none o) (bytes_of runs) [] → b.held ≡ cond (is_none o) (held h) []
+        → (settled (is_some o) b).held ≡ cond (is_none o) (held (Commit runs ∷ h)) []
     each (Some code) more same = same
-    each None more same = ap (λ (xs : List ℕ). xs ++ b.draft) same ∙ sym (more ∙ ap (λ (xs : List ℕ). held h ++ xs) (bytes_of_runs b.draft))
+    each None more same = ap (λ (xs : List ℕ). xs ++ b.draft) same ∙ sym (more ∙ ap (λ (xs : List ℕ). held h ++ xs) drafted)
 
 read_lends : (b : Bool) (bytes lent : List ℕ) → cond b (Some bytes) None ≡ Some lent → lent ≡ bytes
 read_lends true bytes lent e = cc
@@ -94,6 +90,27 @@ lent_of p h n (Some bytes) is e s =
 pub lent : (p : Pipe) (h : List Call) (n : ℕ) → p.control.lent ≡ Some n → HoldsFor p h → IsLent p h n
 lent p h n e s = lent_of p h n (lend h) refl (sym s.marks.lent ∙ e) s
 
+pub lent_within : (p : Pipe) (h : List Call) → HoldsFor p h → unwrap_or p.control.lent 0 ≤ length p.bytes.held
+lent_within p h s = each p.control.lent refl
+  where
+    each : (o : Option ℕ) → p.control.lent ≡ o → unwrap_or o 0 ≤ length p.bytes.held
+    each (Some n) is = (lent p h n is s).within
+    each None is = omega arith
+
+pub lent_bytes : (p : Pipe) (h : List Call) → HoldsFor p h → IsSome p.control.lent → lend h ≡ Some (take (unwrap_or p.control.lent 0) p.bytes.held)
+lent_bytes p h s some = each p.control.lent refl some
+  where
+    each : (o : Option ℕ) → p.control.lent ≡ o → IsSome o → lend h ≡ Some (take (unwrap_or o 0) p.bytes.held)
+    each (Some n) is some = (lent p h n is s).bytes
+    each None is none = absurd cc
+
+pub lent_length : (p : Pipe) (h : List Call) → HoldsFor p h → IsSome p.control.lent → p.control.lent ≡ Some (length (take (unwrap_or p.control.lent 0) p.bytes.held))
+lent_length p h s some = each p.control.lent refl some
+  where
+    each : (o : Option ℕ) → p.control.lent ≡ o → IsSome o → o ≡ Some (length (take (unwrap_or o 0) p.bytes.held))
+    each (Some n) is some = ap Some (omega (arith, (lent p h n is s).within, length-take n p.bytes.held))
+    each None is none = absurd cc
+
 pub may_release : (p : Pipe) (h : List Call) (c e : ℕ) → MayAdvance p.control.lent c e → HoldsFor p h → c ≤ length p.bytes.held
 may_release p h c e may s = each p.control.lent refl may
   where
@@ -101,13 +118,14 @@ may_release p h c e may s = each p.control.lent refl may
     each (Some n) is m = omega (arith, m.0, m.1, (lent p h n is s).within)
     each None is m = elim m [ ]
 
+made_is : (p q : Pipe) → thresholds_of q.control ≡ thresholds_of p.control → capacity_of q.bytes ≡ capacity_of p.bytes → made_of q ≡ made_of p
+made_is p q e f = rw (e, f) refl
+
 -- a call of the control, with what becomes of the bytes, is one of the pipe
-pub pipe_answers : (p q : Pipe) (call : Call) (answer : Answer) → Answers p.control call answer q.control → capacity_of q.bytes ≡ capacity_of p.bytes
-    → ((h : List Call) → HoldsFor p h → q.bytes.held ≡ kept (call ∷ h)) → PipeAnswers p call answer q
+pub pipe_answers : (p q : Pipe) (call : Call) (answer : Answer) → ControlAnswers p.control call answer q.control → capacity_of q.bytes ≡ capacity_of p.bytes
+    → ((h : List Call) → HoldsFor p h → q.bytes.held ≡ kept (call ∷ h)) → PipeAnswers p (call ∷ []) answer q
 pipe_answers p q call answer a capacity holds = record {
-  pause = a.pause;
-  resume = a.resume;
-  capacity = capacity;
+  kept = made_is p q a.kept capacity;
   ended = a.ended;
   gone = a.gone;
   lent = a.lent;
@@ -120,66 +138,47 @@ settled_capacity b true = omega (arith, length-append b.draft b.free)
 settled_capacity b false = omega (arith, length-append b.held b.draft)
 
 -- a commit of the draft, which is settled as the reader is gone or not
-pub flushes : (p q : Pipe) (dropped : Bool) (answer : Answer) → dropped ≡ is_some p.control.gone → q.bytes ≡ settled dropped p.bytes
-    → Answers p.control (Commit (runs_of p.bytes.draft)) answer q.control → PipeAnswers p (Commit (runs_of p.bytes.draft)) answer q
-flushes p q dropped answer is settles a =
-    pipe_answers p q (Commit (runs_of p.bytes.draft)) answer a (ap capacity_of settles ∙ settled_capacity p.bytes dropped)
-    (λ h s. ap (λ (b : Bytes). b.held) settles ∙ settled_holds p.bytes h dropped (is ∙ ap is_some s.marks.gone) s.marks.legal s.held)
+pub flushes : (p q : Pipe) (runs : List Run) (dropped : Bool) (answer : Answer) → bytes_of runs ≡ p.bytes.draft → dropped ≡ is_some p.control.gone → q.bytes ≡ settled dropped p.bytes
+    → ControlAnswers p.control (Commit runs) answer q.control → PipeAnswers p (Commit runs ∷ []) answer q
+flushes p q runs dropped answer drafted is settles a =
+    pipe_answers p q (Commit runs) answer a (ap capacity_of settles ∙ settled_capacity p.bytes dropped)
+    (λ h s. ap (λ (b : Bytes). b.held) settles ∙ settled_holds p.bytes runs h dropped drafted (is ∙ ap is_some s.marks.gone) s.marks.legal s.held)
 
-pub draft_len_is : (draft : List ℕ) → length (bytes_of (runs_of draft)) ≡ length draft
-draft_len_is draft = ap length (bytes_of_runs draft)
+-- runs of no byte are none
+pub no_runs : (runs : List Run) (draft : List ℕ) → AreRunsOf runs draft → length draft ≡ 0 → runs ≡ []
+no_runs [] draft are none = refl
+no_runs (r ∷ runs) draft are none = absurd (omega (arith, are.full.0, length-append r.bytes (bytes_of runs), ap length are.all))
+
+-- a completion with no draft is one call
+pub closes_alone : (p q : Pipe) (runs : List Run) (draft : List ℕ) (code : ℕ) (wake : Wake) → AreRunsOf runs draft → length draft ≡ 0 → ControlAnswers p.control (EndWriter code) (Woke wake) q.control
+    → q.bytes ≡ p.bytes → PipeAnswers p (closing runs code) (Woke wake) q
+closes_alone p q runs draft code wake are none a same =
+    rw (no_runs runs draft are none) (pipe_answers p q (EndWriter code) (Woke wake) a (ap capacity_of same) (λ h s. ap (λ (b : Bytes). b.held) same ∙ s.held))
 
 unjoined : (w : Wake) → w ≡ either_wake w (record { reader = false; writer = false })
 unjoined w = rw (or-false w.reader, or-false w.writer) refl
 
--- a completion with no draft is one call
-pub closes_alone : (p q : Pipe) (draft : List ℕ) (code : ℕ) (wake : Wake) → length draft ≡ 0 → Answers p.control (EndWriter code) (Woke wake) q.control → q.bytes ≡ p.bytes
-    → PipeCloses p (closing draft code) wake q
-closes_alone p q draft code wake none a same = rw empty (record {
-  pause = a.pause;
-  resume = a.resume;
-  capacity = ap capacity_of same;
-  ended = rw a.ended refl;
-  gone = a.gone;
-  lent = a.lent;
-  told = λ h s. let e : Woke wake ≡ Woke (wake_of p.control.pause p.control.resume (EndWriter code) h) = a.told h s.marks in
-      let f : wake ≡ wake_of p.control.pause p.control.resume (EndWriter code) h = cc in f ∙ unjoined (wake_of p.control.pause p.control.resume (EndWriter code) h);
-  stands = λ h s. record { marks = a.stands h s.marks; held = ap (λ (b : Bytes). b.held) same ∙ s.held };
-})
-  where
-    empty : closing draft code ≡ EndWriter code ∷ []
-    empty = each draft none
-      where
-        each : (draft : List ℕ) → length draft ≡ 0 → closing draft code ≡ EndWriter code ∷ []
-        each [] e = refl
-        each (b ∷ bytes) e = absurd (omega arith)
-
-closing_some : (draft : List ℕ) (code : ℕ) → length draft ≢ 0 → closing draft code ≡ EndWriter code ∷ Commit (runs_of draft) ∷ []
-closing_some [] code some = absurd (some refl)
-closing_some (b ∷ bytes) code some = refl
-
 -- a completion with a draft is a commit and a call
-pub closes_behind : (p m q : Pipe) (draft : List ℕ) (code : ℕ) (reply : FlushReply) (first second : Wake) → length draft ≢ 0
-    → PipeAnswers p (Commit (runs_of draft)) (Flushed reply first) m → Answers m.control (EndWriter code) (Woke second) q.control → q.bytes ≡ m.bytes
-    → PipeCloses p (closing draft code) (either_wake second first) q
-closes_behind p m q draft code reply first second some a b same = rw (closing_some draft code some) (record {
-  pause = b.pause ∙ a.pause;
-  resume = b.resume ∙ a.resume;
-  capacity = ap capacity_of same ∙ a.capacity;
-  ended = rw b.ended refl;
+pub closes_behind : (p m q : Pipe) (runs : List Run) (draft : List ℕ) (code : ℕ) (reply : FlushReply) (first second : Wake) → AreRunsOf runs draft → length draft ≢ 0
+    → PipeAnswers p (Commit runs ∷ []) (Flushed reply first) m → ControlAnswers m.control (EndWriter code) (Woke second) q.control → q.bytes ≡ m.bytes
+    → PipeAnswers p (closing runs code) (Woke (either_wake second first)) q
+closes_behind p m q [] draft code reply first second are some a b same = absurd (some (ap length (sym are.all)))
+closes_behind p m q (r ∷ rs) draft code reply first second are some a b same = record {
+  kept = made_is m q b.kept (ap capacity_of same) ∙ a.kept;
+  ended = b.ended;
   gone = b.gone ∙ a.gone;
   lent = b.lent ∙ a.lent;
   told = λ h s.
+      let runs : List Run = r ∷ rs in
       let e = a.told h s in
-      let f : first ≡ wake_of p.control.pause p.control.resume (Commit (runs_of draft)) h = cc in
-      let g = b.told (Commit (runs_of draft) ∷ h) (a.stands h s).marks in
-      let i : second ≡ wake_of m.control.pause m.control.resume (EndWriter code) (Commit (runs_of draft) ∷ h) = cc in
-      let j : second ≡ wake_of p.control.pause p.control.resume (EndWriter code) (Commit (runs_of draft) ∷ h) =
-      subst (λ (pause : ℕ). second ≡ wake_of pause p.control.resume (EndWriter code) (Commit (runs_of draft) ∷ h)) a.pause
-      (subst (λ (resume : ℕ). second ≡ wake_of m.control.pause resume (EndWriter code) (Commit (runs_of draft) ∷ h)) a.resume i) in
-      both_wakes second _ first _ j (f ∙ unjoined (wake_of p.control.pause p.control.resume (Commit (runs_of draft)) h));
-  stands = λ h s. let t = a.stands h s in record { marks = b.stands (Commit (runs_of draft) ∷ h) t.marks; held = ap (λ (b : Bytes). b.held) same ∙ t.held };
-})
+      let f : first ≡ wake_of p.control.pause p.control.resume (Commit runs) h = cc in
+      let g = b.told (Commit runs ∷ h) (a.stands h s).marks in
+      let i : second ≡ wake_of m.control.pause m.control.resume (EndWriter code) (Commit runs ∷ h) = cc in
+      let j : second ≡ wake_of p.control.pause p.control.resume (EndWriter code) (Commit runs ∷ h) =
+      subst (λ (t : Thresholds). second ≡ wake_of t.pause t.resume (EndWriter code) (Commit runs ∷ h)) (ap (λ (t : Made). t.thresholds) a.kept) i in
+      ap Woke (both_wakes second _ first _ j (f ∙ unjoined (wake_of p.control.pause p.control.resume (Commit runs) h)));
+  stands = λ h s. let t = a.stands h s in record { marks = b.stands (Commit (r ∷ rs) ∷ h) t.marks; held = ap (λ (b : Bytes). b.held) same ∙ t.held };
+}
   where
     both_wakes : (v v' w w' : Wake) → v ≡ v' → w ≡ w' → either_wake v w ≡ either_wake v' w'
     both_wakes v v' w w' e f = rw (e, f) refl
@@ -192,20 +191,21 @@ committed_capacity b true bytes fits = refl
 committed_capacity b false bytes fits = omega (arith, length-append b.held bytes, length-drop (length bytes) b.free)
 
 -- what a buffer holds once these bytes are committed at once
-committed_holds : (b : Bytes) (bytes : List ℕ) (h : List Call) (dropped : Bool) → dropped ≡ is_some (reader_end h) → IsLegal h → b.held ≡ kept h → (with_committed dropped bytes b).held ≡ kept (Commit (runs_of bytes) ∷ h)
-committed_holds b bytes h dropped is legal holds = rw is (each (reader_end h) (held_commit (runs_of bytes) h legal) holds)
+committed_holds : (b : Bytes) (runs : List Run) (bytes : List ℕ) (h : List Call) (dropped : Bool) → bytes_of runs ≡ bytes → dropped ≡ is_some (reader_end h) → IsLegal h → b.held ≡ kept h
+    → (with_committed dropped bytes b).held ≡ kept (Commit runs ∷ h)
+committed_holds b runs bytes h dropped are is legal holds = rw is (each (reader_end h) (held_commit runs h legal) holds)
   where
-    each : (o : Option ℕ) → held (Commit (runs_of bytes) ∷ h) ≡ held h ++ cond (is_none o) (bytes_of (runs_of bytes)) [] → b.held ≡ cond (is_none o) (held h) []
-        → (with_committed (is_some o) bytes b).held ≡ cond (is_none o) (held (Commit (runs_of bytes) ∷ h)) []
+    each : (o : Option ℕ) → held (Commit runs ∷ h) ≡ held h ++ cond (is_none o) (bytes_of runs) [] → b.held ≡ cond (is_none o) (held h) []
+        → (with_committed (is_some o) bytes b).held ≡ cond (is_none o) (held (Commit runs ∷ h)) []
     each (Some code) more same = same
-    each None more same = ap (λ (xs : List ℕ). xs ++ bytes) same ∙ sym (more ∙ ap (λ (xs : List ℕ). held h ++ xs) (bytes_of_runs bytes))
+    each None more same = ap (λ (xs : List ℕ). xs ++ bytes) same ∙ sym (more ∙ ap (λ (xs : List ℕ). held h ++ xs) are)
 
 -- a commit of bytes that weren't drafted
-pub writes : (p q : Pipe) (bytes : List ℕ) (dropped : Bool) (answer : Answer) → dropped ≡ is_some p.control.gone → length bytes ≤ length p.bytes.free → q.bytes ≡ with_committed dropped bytes p.bytes
-    → Answers p.control (Commit (runs_of bytes)) answer q.control → PipeAnswers p (Commit (runs_of bytes)) answer q
-writes p q bytes dropped answer is fits by a =
-    pipe_answers p q (Commit (runs_of bytes)) answer a (ap capacity_of by ∙ committed_capacity p.bytes dropped bytes fits)
-    (λ h s. ap (λ (b : Bytes). b.held) by ∙ committed_holds p.bytes bytes h dropped (is ∙ ap is_some s.marks.gone) s.marks.legal s.held)
+pub writes : (p q : Pipe) (runs : List Run) (bytes : List ℕ) (dropped : Bool) (answer : Answer) → bytes_of runs ≡ bytes → dropped ≡ is_some p.control.gone → length bytes ≤ length p.bytes.free
+    → q.bytes ≡ with_committed dropped bytes p.bytes → ControlAnswers p.control (Commit runs) answer q.control → PipeAnswers p (Commit runs ∷ []) answer q
+writes p q runs bytes dropped answer are is fits by a =
+    pipe_answers p q (Commit runs) answer a (ap capacity_of by ∙ committed_capacity p.bytes dropped bytes fits)
+    (λ h s. ap (λ (b : Bytes). b.held) by ∙ committed_holds p.bytes runs bytes h dropped are (is ∙ ap is_some s.marks.gone) s.marks.legal s.held)
 
 pub no_draft_after : (b : Bytes) (dropped : Bool) (bytes : List ℕ) → b.draft ≡ [] → (with_committed dropped bytes b).draft ≡ []
 no_draft_after b true bytes none = none

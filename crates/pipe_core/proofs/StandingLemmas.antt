@@ -17,7 +17,7 @@ use Rattle.pipe_core.specs.Flushes.{flush_is_ready, reply_to_commit}
 use Rattle.pipe_core.specs.Wakes.{wake_of}
 use Rattle.pipe_core.specs.Lends.{lend}
 use Rattle.pipe_core.specs.Answers.{Flushed, Gave, Woke, answer_to, ended_after, gone_after, lent_after}
-use Rattle.pipe_core.specs.Standing.{StandsFor, AreThresholds, MayAdvance, IsSound, Answers}
+use Rattle.pipe_core.specs.Standing.{StandsFor, AreThresholds, MayAdvance, IsSound, ControlAnswers, thresholds_of}
 use Rattle.pipe_core.specs.Control.{reads_now, flush_goes, flushes_now, woken, total_with, pauses_at, pause_lasts}
 use Rattle.pipe_core.proofs.OrderLemmas.{ordered, total_commit}
 
@@ -97,14 +97,16 @@ pub sound_after : (m n : Marks) (call : Call) → n.pause ≡ m.pause → n.resu
 sound_after m n call pause resume sound stands =
     sound_of n (call ∷ sound.history.0) (rw (pause, resume) sound.thresholds) (stands sound.history.0 sound.history.1)
 
+pub same_thresholds : (m n : Marks) → n.pause ≡ m.pause → n.resume ≡ m.resume → thresholds_of n ≡ thresholds_of m
+same_thresholds m n pause resume = rw (pause, resume) refl
+
 -- a call whose only answer is its wake
 pub woke : (m n : Marks) (call : Call) (wake : Wake) → n.pause ≡ m.pause → n.resume ≡ m.resume → wake ≡ woken m n
     → ((h : List Call) → StandsFor m h → StandsFor n (call ∷ h))
     → ((h : List Call) → answer_to m.pause m.resume call h ≡ Woke (wake_of m.pause m.resume call h))
-    → n.ended ≡ ended_after call m.ended → n.gone ≡ gone_after call m.gone → n.lent ≡ lent_after call (Woke wake) m.lent → Answers m call (Woke wake) n
+    → n.ended ≡ ended_after call m.ended → n.gone ≡ gone_after call m.gone → n.lent ≡ lent_after call (Woke wake) m.lent → ControlAnswers m call (Woke wake) n
 woke m n call wake pause resume e stands only ended gone lent = record {
-  pause = pause;
-  resume = resume;
+  kept = same_thresholds m n pause resume;
   ended = ended;
   gone = gone;
   lent = lent;
@@ -343,7 +345,7 @@ told_commit m n t runs h size fits s =
 -- an advance, with the mark that it leaves and the pause
 pub advances : (m : Marks) (c e x : ℕ) (paused : Bool) (wake : Wake) → MayAdvance m.lent c e → x ≡ max m.examined (m.consumed + e) → paused ≡ pause_lasts m x
     → (n : Marks) → n ≡ record m { consumed = m.consumed + c; examined = x; paused = paused; lent = None; reader_waits = false } → wake ≡ woken m n
-    → (IsSound m → IsSound n) × Answers m (Advance c e) (Woke wake) n
+    → (IsSound m → IsSound n) × ControlAnswers m (Advance c e) (Woke wake) n
 advances m c e x paused wake may mark is n new wakes =
     let stands : (h : List Call) → StandsFor m h → StandsFor n (Advance c e ∷ h) = λ h s. rw (new, is) (after_advance m c e x h may mark s) in
     let pause : n.pause ≡ m.pause = rw new refl in
@@ -360,15 +362,14 @@ pub reads : (m : Marks) (ready : Bool) (lent : Option ℕ) (reply : ReadReply) (
     → lent ≡ cond ready (Some (m.committed - m.consumed)) None
     → reply ≡ cond ready (read.Ready m.read_canceled m.ended (m.committed - m.consumed)) (read.Pending m.examined)
     → (n : Marks) → n ≡ record m { read_canceled = false; lent = lent; reader_waits = not ready } → wake ≡ woken m n
-    → (IsSound m → IsSound n) × Answers m Read (Gave reply wake) n
+    → (IsSound m → IsSound n) × ControlAnswers m Read (Gave reply wake) n
 reads m ready lent reply wake attended no_lend is lends told n new woke =
     let stands : (h : List Call) → StandsFor m h → StandsFor n (Read ∷ h) = λ h s. rw (new, lends, is) (after_read m h attended no_lend s) in
     let pause : n.pause ≡ m.pause = rw new refl in
     let resume : n.resume ≡ m.resume = rw new refl in (
       (λ sound. sound_after m n Read pause resume sound stands),
       record {
-        pause = pause;
-        resume = resume;
+        kept = same_thresholds m n pause resume;
         ended = rw new refl;
         gone = rw new refl;
         lent = rw new (lends ∙ lent_told ready (m.committed - m.consumed) m.read_canceled m.ended m.examined reply wake m.lent told);
@@ -384,15 +385,14 @@ reads m ready lent reply wake attended no_lend is lends told n new woke =
 pub commits : (m : Marks) (size t : ℕ) (paused ready : Bool) (reply : FlushReply) (wake : Wake) → IsNone m.ended → total_with m size ≡ Some t → paused ≡ pauses_at m t
     → ready ≡ flush_goes m.flush_canceled m.gone paused → reply ≡ cond ready (flush.Ready m.flush_canceled m.gone) (flush.Pending (t - m.examined))
     → (n : Marks) → n ≡ record m { committed = t; flush_canceled = false; paused = paused; writer_waits = not ready } → wake ≡ woken m n
-    → (runs : List Run) → length (bytes_of runs) ≡ size → (IsSound m → IsSound n) × Answers m (Commit runs) (Flushed reply wake) n
+    → (runs : List Run) → length (bytes_of runs) ≡ size → (IsSound m → IsSound n) × ControlAnswers m (Commit runs) (Flushed reply wake) n
 commits m size t paused ready reply wake unended fits is goes told n new woke runs len =
     let stands : (h : List Call) → StandsFor m h → StandsFor n (Commit runs ∷ h) = λ h s. rw (new, goes, is) (after_commit m size t runs h unended len fits s) in
     let pause : n.pause ≡ m.pause = rw new refl in
     let resume : n.resume ≡ m.resume = rw new refl in (
       (λ sound. sound_after m n (Commit runs) pause resume sound stands),
       record {
-        pause = pause;
-        resume = resume;
+        kept = same_thresholds m n pause resume;
         ended = rw new refl;
         gone = rw new refl;
         lent = rw new refl;

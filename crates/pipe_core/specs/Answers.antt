@@ -1,5 +1,6 @@
 -- What each call is answered, and how a whole list of calls is.
-use Rattle.std.specs.Prelude.{ℕ, List, [], ◌∷◌, Option, Some, None}
+use Rattle.std.specs.Prelude.{ℕ, ◌≡◌, List, [], ◌∷◌, ◌++◌, Option, Some, None}
+use Rattle.pipe_core.specs.declared.marks.Marks.{Marks}
 use Rattle.pipe_core.specs.declared.reply.FlushReply.{FlushReply}
 use Rattle.pipe_core.specs.declared.reply.ReadReply.{ReadReply}
 use Rattle.pipe_core.specs.declared.reply.ReadReply.TheVariants as read
@@ -7,7 +8,7 @@ use Rattle.pipe_core.specs.declared.reply.Wake.{Wake}
 use Rattle.pipe_core.specs.History.{Call, Commit, EndWriter, Read, Advance, EndReader}
 use Rattle.pipe_core.specs.Reads.{reply_to_read}
 use Rattle.pipe_core.specs.Flushes.{reply_to_commit}
-use Rattle.pipe_core.specs.Wakes.{wake_of}
+use Rattle.pipe_core.specs.Wakes.{wake_of, wakes_of}
 
 -- A commit and a read have a reply, and each call has a wake.
 pub data Answer : Type 0 where
@@ -30,6 +31,11 @@ answers_after pause resume h (call ∷ calls) = answer_to pause resume call h �
 abbrev pub answers : ℕ → ℕ → List Call → List Answer
 answers pause resume calls = answers_after pause resume [] calls
 
+-- the answer to calls that are made at once, the latest first: a call alone has its own, and of several, or none, only their wake is told
+abbrev pub answer_at_once : ℕ → ℕ → List Call → List Call → Answer
+answer_at_once pause resume (call ∷ []) h = answer_to pause resume call h
+answer_at_once pause resume calls h = Woke (wakes_of pause resume calls h)
+
 -- the writer's code after a call, the reader's code, and the length of the lend
 abbrev pub ended_after : Call → Option ℕ → Option ℕ
 ended_after (EndWriter code) before = Some code
@@ -45,3 +51,27 @@ lent_after Read answer before = None
 lent_after (Advance c e) answer before = None
 lent_after (EndReader code) answer before = None
 lent_after call answer before = before
+
+-- the same after calls that are made at once, the latest first. Of several none is a read
+abbrev pub ended_after_all : List Call → Option ℕ → Option ℕ
+ended_after_all [] before = before
+ended_after_all (call ∷ calls) before = ended_after call (ended_after_all calls before)
+
+abbrev pub gone_after_all : List Call → Option ℕ → Option ℕ
+gone_after_all [] before = before
+gone_after_all (call ∷ calls) before = gone_after call (gone_after_all calls before)
+
+abbrev pub lent_after_all : List Call → Answer → Option ℕ → Option ℕ
+lent_after_all [] answer before = before
+lent_after_all (call ∷ calls) answer before = lent_after call answer (lent_after_all calls answer before)
+
+-- Calls, the latest first, took a pipe with these thresholds, or a part of one, to another. What it was made with stays. By its marks, whether an
+-- end has completed goes by the calls alone, and what is lent by them and their answer. For every history that it stood for, the answer is the one that
+-- the calls have there, and it now stands for the history with the calls.
+pub record Answers {S M : Type 0} (marks : S → Marks) (made : S → M) (at : S → List Call → Type 0) (pause resume : ℕ) (before : S) (calls : List Call) (answer : Answer) (after : S) : Type 0 where
+  pub kept : made after ≡ made before
+  pub ended : (marks after).ended ≡ ended_after_all calls (marks before).ended
+  pub gone : (marks after).gone ≡ gone_after_all calls (marks before).gone
+  pub lent : (marks after).lent ≡ lent_after_all calls answer (marks before).lent
+  pub told : (h : List Call) → at before h → answer ≡ answer_at_once pause resume calls h
+  pub stands : (h : List Call) → at before h → at after (calls ++ h)

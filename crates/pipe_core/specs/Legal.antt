@@ -1,5 +1,5 @@
 -- Which calls may come next, and which histories are lawful.
-use Rattle.std.specs.Prelude.{ℕ, ◌+◌, ◌^◌, ◌≤◌, ◌⊎◌, List, [], ◌∷◌, length, IsSome, IsNone, IsSomeAnd}
+use Rattle.std.specs.Prelude.{◌+◌, ◌^◌, ◌≤◌, ◌⊎◌, List, [], ◌∷◌, length, IsSome, IsNone, IsSomeAnd}
 use Rattle.pipe_core.specs.History.{Call, Commit, EndWriter, Read, Advance, EndReader, CancelRead, CancelFlush, bytes_of, writer_end, reader_end}
 use Rattle.pipe_core.specs.Progress.{total}
 use Rattle.pipe_core.specs.Lends.{lend}
@@ -16,13 +16,3 @@ MayFollow CancelFlush h = Unit {0}
 abbrev pub IsLegal : List Call → Type 0
 IsLegal [] = Unit {0}
 IsLegal (call ∷ h) = IsLegal h × MayFollow call h
-
--- the seat that makes a call
-abbrev pub seat_of : Call → ℕ
-seat_of (Commit runs) = 0
-seat_of (EndWriter code) = 0
-seat_of Read = 1
-seat_of (Advance c e) = 1
-seat_of (EndReader code) = 1
-seat_of CancelRead = 2
-seat_of CancelFlush = 2

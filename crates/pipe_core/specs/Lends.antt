@@ -1,16 +1,17 @@
 -- What a standing lend shows.
 use Rattle.std.specs.Prelude.{ℕ, ◌-◌, ◌==◌, nat_lt, List, [], ◌∷◌, ◌++◌, length, drop, Option, Some, None, if◌then◌else◌}
-use Rattle.pipe_core.specs.History.{Run, Call, Read, Advance, EndReader}
+use Rattle.pipe_core.specs.History.{Run, Call, Read, last_of}
 use Rattle.pipe_core.specs.Progress.{committed_runs, consumed, held}
 use Rattle.pipe_core.specs.Reads.{read_is_ready}
 
--- the bytes of the lend, where one stands
+-- what a call lends: a read that is ready, all that is committed and not consumed
+abbrev pub bytes_lent_by : Option (Call × List Call) → Option (List ℕ)
+bytes_lent_by (Some (Read, before)) = if read_is_ready before then Some (held before) else None
+bytes_lent_by last = None
+
+-- the bytes of the lend, where one stands: the reader's last call lends them
 abbrev pub lend : List Call → Option (List ℕ)
-lend [] = None
-lend (Read ∷ h) = if read_is_ready h then Some (held h) else None
-lend (Advance c e ∷ h) = None
-lend (EndReader code ∷ h) = None
-lend (call ∷ h) = lend h
+lend h = bytes_lent_by (last_of 1 h)
 
 -- runs without their first bytes
 abbrev pub drop_bytes : ℕ → List Run → List Run

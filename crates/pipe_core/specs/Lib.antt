@@ -1,5 +1,6 @@
 pub mod History
 pub mod Progress
+pub mod Examined
 pub mod Reads
 pub mod Pauses
 pub mod Flushes

@@ -8,7 +8,7 @@ use Rattle.pipe_core.specs.Reads.{reader_waits}
 use Rattle.pipe_core.specs.Flushes.{writer_waits}
 use Rattle.pipe_core.specs.Lends.{lend}
 use Rattle.pipe_core.specs.Legal.{IsLegal}
-use Rattle.pipe_core.specs.Answers.{Answer, answer_to, ended_after, gone_after, lent_after}
+use Rattle.pipe_core.specs.Answers.{Answer, Answers}
 
 -- Each mark and each flag is the answer to its question on a lawful history.
 pub record StandsFor (m : Marks) (h : List Call) : Type 0 where
@@ -42,19 +42,19 @@ pub record IsSound (m : Marks) : Type 0 where
   pub committed_in : m.committed ≤ 2 ^ 62
   pub lent_in : m.consumed + unwrap_or m.lent 0 ≤ m.committed
 
--- A call took marks to marks. The thresholds stay, and whether an end has completed and what is lent go by the call alone.
--- For every history that they stood for, the answer is the one that the call has there, and they now stand for the history
--- with the call.
-pub record Answers (before : Marks) (call : Call) (answer : Answer) (after : Marks) : Type 0 where
-  pub pause : after.pause ≡ before.pause
-  pub resume : after.resume ≡ before.resume
-  pub ended : after.ended ≡ ended_after call before.ended
-  pub gone : after.gone ≡ gone_after call before.gone
-  pub lent : after.lent ≡ lent_after call answer before.lent
-  pub told : (h : List Call) → StandsFor before h → answer ≡ answer_to before.pause before.resume call h
-  pub stands : (h : List Call) → StandsFor before h → StandsFor after (call ∷ h)
+-- the thresholds
+pub record Thresholds : Type 0 where
+  pub pause : ℕ
+  pub resume : ℕ
+
+abbrev pub thresholds_of : Marks → Thresholds
+thresholds_of m = record { pause = m.pause; resume = m.resume }
+
+-- A call took marks to marks.
+abbrev pub ControlAnswers : Marks → Call → Answer → Marks → Type 0
+ControlAnswers before call answer after = Answers (λ m. m) thresholds_of StandsFor before.pause before.resume before (call ∷ []) answer after
 
 -- The same of calls that were made one after another, each with its answer.
 abbrev pub AnswersAll : Marks → List (Call × Answer) → Marks → Type 0
 AnswersAll before [] after = after ≡ before
-AnswersAll before (step ∷ steps) after = (middle : Marks) × Answers before step.0 step.1 middle × AnswersAll middle steps after
+AnswersAll before (step ∷ steps) after = (middle : Marks) × ControlAnswers before step.0 step.1 middle × AnswersAll middle steps after

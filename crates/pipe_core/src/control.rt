@@ -1,9 +1,9 @@
 //! A pipe's marks and flags, and what each call answers by them.
 
-ghost use Rattle.std.specs.Prelude.{◌≡◌, ◌+◌, ◌^◌, ◌<◌, ◌≤◌, ◌↔◌, ℕ, List, [], length, is_some, Some, IsSome, IsNone, IsErr, IfErr, IfOk, OnErr};
+ghost use Rattle.std.specs.Prelude.{◌≡◌, ◌+◌, ◌^◌, ◌<◌, ◌≤◌, ◌↔◌, ℕ, List, [], length, is_some, unwrap_or, IsNone, IsErr, IfErr, IfOk, OnErr};
 ghost use Rattle.pipe_core.specs.History.{Run, Commit, EndWriter, Read, Advance, EndReader, CancelRead, CancelFlush, bytes_of};
 ghost use Rattle.pipe_core.specs.Answers.{Flushed, Gave, Woke};
-ghost use Rattle.pipe_core.specs.Standing.{StandsFor, AreThresholds, MayAdvance, Answers};
+ghost use Rattle.pipe_core.specs.Standing.{StandsFor, AreThresholds, MayAdvance, ControlAnswers};
 
 use crate::marks::{Marks, flush_goes, flush_reply, lent_where, read_reply};
 use crate::reply::{FlushReply, ReadReply, TooMuch, Wake};
@@ -15,7 +15,7 @@ use std::marker::Model;
 /// be made again. Who makes the calls, and from which thread, is left to the crates above.
 #[derive(Debug, Drop)]
 pub struct Control {
-    marks: Marks,
+    pub(crate) marks: Marks,
 }
 
 // Clauses see the marks. They always stand for some history of calls.
@@ -69,13 +69,7 @@ impl Control {
         ensures told_total { IfErr result (λ refused. refused.total ≡ self.old.committed) }
         ensures unchanged { OnErr result (self.new ≡ self.old) }
         ensures answers { IfOk result (λ answer. (runs : List Run) → length (bytes_of runs) ≡ n →
-            Answers self.old (Commit runs) (Flushed answer.0 answer.1) self.new) }
-        ensures committed { self.new.committed ≤ self.old.committed + n }
-
-        // Whether an end has completed, and what is lent, stays with either outcome.
-        ensures ended { self.new.ended ≡ self.old.ended }
-        ensures gone { self.new.gone ≡ self.old.gone }
-        ensures lent { self.new.lent ≡ self.old.lent }
+            ControlAnswers self.old (Commit runs) (Flushed answer.0 answer.1) self.new) }
     {
         let before = self.marks;
         let Some(committed) = before.total_with(n) else {
@@ -103,8 +97,7 @@ impl Control {
     pub fn read(&mut self) -> (ReadReply, Wake)
         requires attended { IsNone self.old.gone }
         requires no_lend { IsNone self.old.lent }
-        ensures answers { Answers self.old Read (Gave result.0 result.1) self.new }
-        ensures committed { self.new.committed ≡ self.old.committed }
+        ensures { ControlAnswers self.old Read (Gave result.0 result.1) self.new }
     {
         let before = self.marks;
         let ready = before.reads_now();
@@ -130,8 +123,7 @@ impl Control {
     /// `PipeReader.AdvanceTo(consumed, examined)` does. An examined mark never goes back.
     pub fn advance(&mut self, c: u64, e: u64) -> Wake
         requires { MayAdvance self.old.lent c e }
-        ensures answers { Answers self.old (Advance c e) (Woke result) self.new }
-        ensures committed { self.new.committed ≡ self.old.committed }
+        ensures { ControlAnswers self.old (Advance c e) (Woke result) self.new }
     {
         let before = self.marks;
         let examined = before.examined.max(before.consumed + e);
@@ -150,8 +142,7 @@ impl Control {
     /// Completes the writer, as `PipeWriter.Complete` does, with a code: 0 for success. What is committed stays readable.
     pub fn end_writer(&mut self, code: u32) -> Wake
         requires { IsNone self.old.ended }
-        ensures answers { Answers self.old (EndWriter code) (Woke result) self.new }
-        ensures committed { self.new.committed ≡ self.old.committed }
+        ensures { ControlAnswers self.old (EndWriter code) (Woke result) self.new }
     {
         let before = self.marks;
         let after = Marks {
@@ -166,8 +157,7 @@ impl Control {
     /// Completes the reader, as `PipeReader.Complete` does, with a code: 0 for success. A lend and a pause end by it.
     pub fn end_reader(&mut self, code: u32) -> Wake
         requires { IsNone self.old.gone }
-        ensures answers { Answers self.old (EndReader code) (Woke result) self.new }
-        ensures committed { self.new.committed ≡ self.old.committed }
+        ensures { ControlAnswers self.old (EndReader code) (Woke result) self.new }
     {
         let before = self.marks;
         let after = Marks {
@@ -183,7 +173,7 @@ impl Control {
 
     /// Ends the pending read, or the next one if none is pending, as `PipeReader.CancelPendingRead` does. No byte is lost.
     pub fn cancel_read(&mut self) -> Wake
-        ensures { Answers self.old CancelRead (Woke result) self.new }
+        ensures { ControlAnswers self.old CancelRead (Woke result) self.new }
     {
         let before = self.marks;
         let after = Marks {
@@ -196,7 +186,7 @@ impl Control {
 
     /// Ends the pending flush, or the next one if none is pending, as `PipeWriter.CancelPendingFlush` does. A pause goes on.
     pub fn cancel_flush(&mut self) -> Wake
-        ensures { Answers self.old CancelFlush (Woke result) self.new }
+        ensures { ControlAnswers self.old CancelFlush (Woke result) self.new }
     {
         let before = self.marks;
         let after = Marks {
@@ -228,10 +218,9 @@ impl Control {
         self.marks.gone.is_some()
     }
 
-    // The length of the lend.
+    // The length of the lend, 0 where none stands.
     pub(crate) fn lent_len(&self) -> u64
-        requires { IsSome self.now.lent }
-        ensures { self.now.lent ≡ Some result }
+        ensures { result ≡ unwrap_or self.now.lent 0 }
     {
         self.marks.lent.unwrap_or(0)
     }

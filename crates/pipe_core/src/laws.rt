@@ -1,10 +1,11 @@
 //! Laws of the definitions. These functions do nothing: what they ensure is the law.
 
 ghost use Rattle.std.specs.Prelude.{◌≡◌, ◌<◌, ◌≤◌, ◌↔◌, ◌⊎◌, ℕ, List, [], ◌∷◌, ◌++◌, reverse, map, length, Bool, false, IsTrue, IsSome};
-ghost use Rattle.pipe_core.specs.History.{Run, Call, bytes_of};
+ghost use Rattle.pipe_core.specs.History.{Run, Call, bytes_of, run_in, AreRunsOf};
 ghost use Rattle.pipe_core.specs.Progress.{held, total};
 ghost use Rattle.pipe_core.specs.Lends.{lent_runs};
-ghost use Rattle.pipe_core.specs.Progress.{unexamined};
+ghost use Rattle.pipe_core.specs.Progress.{examined, unexamined};
+ghost use Rattle.pipe_core.specs.Examined.{IsFarthest};
 ghost use Rattle.pipe_core.specs.Pauses.{IsPaused, is_paused};
 ghost use Rattle.pipe_core.specs.Reads.{reply_to_read};
 ghost use Rattle.pipe_core.specs.Flushes.{reply_to_commit};
@@ -15,7 +16,10 @@ ghost use Rattle.pipe_core.specs.Answers.{Answer, answers};
 ghost use Rattle.pipe_core.specs.declared.marks.Marks.{Marks};
 ghost use Rattle.pipe_core.specs.Standing.{StandsFor, AnswersAll};
 ghost use Rattle.pipe_core.specs.Bytes.{overwritten};
+ghost use Rattle.pipe_core.specs.Pipe.{HoldsFor};
 
+use crate::control::Control;
+use crate::plain_pipe::PlainPipe;
 use crate::reply::{FlushReply, ReadReply};
 
 /// A read and a flush never wait at once.
@@ -34,6 +38,12 @@ pub fn pending_flush_is_due()
 pub fn pauses_in_words()
     ensures test { (pause resume : ℕ) (h : List Call) → IsTrue (is_paused pause resume h) → IsPaused pause resume h }
     ensures fact { (pause resume : ℕ) (h : List Call) → IsPaused pause resume h → IsTrue (is_paused pause resume h) }
+{}
+
+/// How far the reader has examined is how far its farthest advance has looked, and nothing else is.
+pub fn examined_in_words()
+    ensures is_farthest { (h : List Call) → IsFarthest h (examined h) }
+    ensures only { (h : List Call) (place : ℕ) → IsFarthest h place → place ≡ examined h }
 {}
 
 /// The runs of a lend are its bytes, in order.
@@ -85,4 +95,23 @@ pub fn cancellation_wakes_its_own_end()
 /// Who wrote all of a loan has written all of what was lent.
 pub fn whole_loan_is_written()
     ensures { (bytes written : List ℕ) → length written ≡ length bytes → overwritten bytes written ≡ written }
+{}
+
+/// A control stands for some history, so what is said of it "for every history" is never empty.
+pub fn control_has_a_history(control: &Control)
+    ensures { (h : List Call) × StandsFor control.now h }
+{
+    let _ = &control.marks;
+}
+
+/// The same of a pipe over one buffer.
+pub fn plain_pipe_has_a_history(pipe: &PlainPipe)
+    ensures { (h : List Call) × HoldsFor pipe.now h }
+{
+    let _ = &pipe.buffer;
+}
+
+/// Bytes of one segment are runs of them.
+pub fn bytes_of_one_segment()
+    ensures { (segment : ℕ) (bytes : List ℕ) → AreRunsOf (run_in segment bytes) bytes }
 {}

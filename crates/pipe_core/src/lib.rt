@@ -17,9 +17,10 @@ pub use cases::{
 };
 pub use control::Control;
 pub use laws::{
-    answers_to_all_calls, cancellation_wakes_its_own_end, completed_end_is_never_woken,
-    latest_first, never_both, no_end_wakes_itself, pauses_in_words, pending_flush_is_due,
-    runs_are_the_lend, waiting_read_has_seen_all, whole_loan_is_written,
+    answers_to_all_calls, bytes_of_one_segment, cancellation_wakes_its_own_end,
+    completed_end_is_never_woken, control_has_a_history, examined_in_words, latest_first,
+    never_both, no_end_wakes_itself, pauses_in_words, pending_flush_is_due,
+    plain_pipe_has_a_history, runs_are_the_lend, waiting_read_has_seen_all, whole_loan_is_written,
 };
 pub use plain_pipe::PlainPipe;
 pub use reply::{FlushReply, ReadReply, TooMuch, Wake};

@@ -1,13 +1,13 @@
 //! A pipe over one buffer, for one thread.
 
-ghost use Rattle.std.specs.Prelude.{◌≡◌, ◌+◌, ◌^◌, ◌<◌, ◌≤◌, ◌↔◌, ℕ, List, [], length, take, IsNone, IsSome, Some, IsErr, IsOk, IfErr, IfOk, OnErr, OnOk};
+ghost use Rattle.std.specs.Prelude.{◌≡◌, ◌+◌, ◌^◌, ◌<◌, ◌≤◌, ◌↔◌, ℕ, List, [], ◌∷◌, length, take, unwrap_or, IsNone, IsSome, Some, IsErr, IfErr, IfOk, OnErr, OnOk};
 ghost use Rattle.std.specs.Borrow.{sem};
-ghost use Rattle.pipe_core.specs.History.{Call, Commit, Read, Advance, EndReader, CancelRead, CancelFlush};
+ghost use Rattle.pipe_core.specs.History.{Run, Call, Commit, Read, Advance, EndReader, CancelRead, CancelFlush, bytes_of, closing, AreRunsOf};
 ghost use Rattle.pipe_core.specs.Lends.{lend};
 ghost use Rattle.pipe_core.specs.Answers.{Flushed, Gave, Woke};
 ghost use Rattle.pipe_core.specs.Standing.{AreThresholds, MayAdvance};
 ghost use Rattle.pipe_core.specs.Bytes.{capacity_of, with_draft};
-ghost use Rattle.pipe_core.specs.Pipe.{HoldsFor, PipeAnswers, PipeCloses, runs_of, closing};
+ghost use Rattle.pipe_core.specs.Pipe.{HoldsFor, PipeAnswers};
 ghost use Rattle.pipe_core.specs.Lending.{LendsSpare};
 
 use crate::buffer::Buffer;
@@ -24,7 +24,7 @@ use std::marker::Model;
 #[derive(Debug, Drop)]
 pub struct PlainPipe {
     control: Control,
-    buffer: Buffer,
+    pub(crate) buffer: Buffer,
 }
 
 // Clauses see the marks and the parts of the buffer. A pipe always stands for some history of calls.
@@ -66,8 +66,7 @@ impl PlainPipe {
     /// How many bytes the pipe has room for: those that are committed and not consumed (none once the reader has
     /// completed), the draft, and the free part.
     pub fn capacity(&self) -> usize
-        ensures capacity { result ≡ length self.now.bytes.held + length self.now.bytes.draft + length self.now.bytes.free }
-        ensures history { (h : List Call) × HoldsFor self.now h }
+        ensures { result ≡ capacity_of self.now.bytes }
     {
         self.buffer.capacity()
     }
@@ -135,15 +134,9 @@ impl PlainPipe {
             (IsNone self.old.control.gone × 2 ^ 62 < self.old.control.committed + length self.old.bytes.draft) }
         ensures told_total { IfErr result (λ refused. refused.total ≡ self.old.control.committed) }
         ensures unchanged { OnErr result (self.new ≡ self.old) }
-        ensures answers { IfOk result (λ answer.
-            PipeAnswers self.old (Commit (runs_of self.old.bytes.draft)) (Flushed answer.0 answer.1) self.new) }
+        ensures answers { IfOk result (λ answer. (runs : List Run) → bytes_of runs ≡ self.old.bytes.draft →
+            PipeAnswers self.old (Commit runs ∷ []) (Flushed answer.0 answer.1) self.new) }
         ensures draft { OnOk result (self.new.bytes.draft ≡ []) }
-        ensures committed { self.new.control.committed ≤ self.old.control.committed + length self.old.bytes.draft }
-
-        // Whether an end has completed, and what is lent, stays with either outcome.
-        ensures ended { self.new.control.ended ≡ self.old.control.ended }
-        ensures gone { self.new.control.gone ≡ self.old.control.gone }
-        ensures lent { self.new.control.lent ≡ self.old.control.lent }
     {
         let dropped = self.control.is_reader_gone();
         let answer = self.control.commit(self.buffer.draft_len() as u64)?;
@@ -155,19 +148,18 @@ impl PlainPipe {
     pub fn read(&mut self) -> (ReadReply, Wake)
         requires attended { IsNone self.old.control.gone }
         requires no_lend { IsNone self.old.control.lent }
-        ensures answers { PipeAnswers self.old Read (Gave result.0 result.1) self.new }
+        ensures answers { PipeAnswers self.old (Read ∷ []) (Gave result.0 result.1) self.new }
         ensures bytes { self.new.bytes ≡ self.old.bytes }
-        ensures committed { self.new.control.committed ≡ self.old.control.committed }
     {
         self.control.read()
     }
 
-    /// The bytes that the last read lent, in place: `ReadResult.Buffer`. What was committed since is not among them.
+    /// The bytes that the last read lent, in place: `ReadResult.Buffer`. What was committed since is not among them. Where no
+    /// lend stands there are none.
     pub fn lent(&self) -> &[u8]
-        requires { IsSome self.now.control.lent }
-        ensures bytes { (h : List Call) → HoldsFor self.now h → lend h ≡ Some result.now }
-        ensures len { self.now.control.lent ≡ Some (length result.now) }
-        ensures within { length result.now ≤ length self.now.bytes.held }
+        ensures front { result.now ≡ take (unwrap_or self.now.control.lent 0) self.now.bytes.held }
+        ensures bytes { (h : List Call) → HoldsFor self.now h → IsSome self.now.control.lent → lend h ≡ Some result.now }
+        ensures len { length result.now ≡ unwrap_or self.now.control.lent 0 }
     {
         let len = self.control.lent_len() as usize;
         &self.buffer.held()[..len]
@@ -177,9 +169,8 @@ impl PlainPipe {
     /// `PipeReader.AdvanceTo` does. The draft stays; what the free part holds does not.
     pub fn advance(&mut self, c: u64, e: u64) -> Wake
         requires { MayAdvance self.old.control.lent c e }
-        ensures answers { PipeAnswers self.old (Advance c e) (Woke result) self.new }
+        ensures answers { PipeAnswers self.old (Advance c e ∷ []) (Woke result) self.new }
         ensures draft { self.new.bytes.draft ≡ self.old.bytes.draft }
-        ensures committed { self.new.control.committed ≡ self.old.control.committed }
     {
         let wake = self.control.advance(c, e);
         self.buffer.release(c as usize);
@@ -196,8 +187,8 @@ impl PlainPipe {
             (IsNone self.old.control.gone × 2 ^ 62 < self.old.control.committed + length bytes.now) }
         ensures told_total { IfErr result (λ refused. refused.total ≡ self.old.control.committed) }
         ensures unchanged { OnErr result (self.new ≡ self.old) }
-        ensures answers { IfOk result (λ answer.
-            PipeAnswers self.old (Commit (runs_of bytes.now)) (Flushed answer.0 answer.1) self.new) }
+        ensures answers { IfOk result (λ answer. (runs : List Run) → bytes_of runs ≡ bytes.now →
+            PipeAnswers self.old (Commit runs ∷ []) (Flushed answer.0 answer.1) self.new) }
         ensures draft { self.new.bytes.draft ≡ [] }
     {
         let dropped = self.control.is_reader_gone();
@@ -216,7 +207,8 @@ impl PlainPipe {
             (IsNone self.old.control.gone × 2 ^ 62 < self.old.control.committed + length bytes.now) }
         ensures told_total { IfErr result (λ refused. refused.total ≡ self.old.control.committed) }
         ensures unchanged { OnErr result (self.new ≡ self.old) }
-        ensures answers { IfOk result (λ wake. PipeCloses self.old (closing bytes.now code) wake self.new) }
+        ensures answers { IfOk result (λ wake. (runs : List Run) → AreRunsOf runs bytes.now →
+            PipeAnswers self.old (closing runs code) (Woke wake) self.new) }
         ensures draft { self.new.bytes.draft ≡ [] }
     {
         if bytes.len() == 0 {
@@ -235,10 +227,9 @@ impl PlainPipe {
             (IsNone self.old.control.gone × 2 ^ 62 < self.old.control.committed + length self.old.bytes.draft) }
         ensures told_total { IfErr result (λ refused. refused.total ≡ self.old.control.committed) }
         ensures unchanged { OnErr result (self.new ≡ self.old) }
-        ensures nothing_drafted { self.old.bytes.draft ≡ [] → IsOk result }
-        ensures answers { IfOk result (λ wake. PipeCloses self.old (closing self.old.bytes.draft code) wake self.new) }
+        ensures answers { IfOk result (λ wake. (runs : List Run) → AreRunsOf runs self.old.bytes.draft →
+            PipeAnswers self.old (closing runs code) (Woke wake) self.new) }
         ensures draft { OnOk result (self.new.bytes.draft ≡ []) }
-        ensures committed { self.new.control.committed ≤ self.old.control.committed + length self.old.bytes.draft }
     {
         if self.buffer.draft_len() == 0 {
             return Ok(self.control.end_writer(code));
@@ -251,9 +242,8 @@ impl PlainPipe {
     /// Completes the reader with a code, as `PipeReader.Complete` does. A lend ends, and what was committed is given up.
     pub fn end_reader(&mut self, code: u32) -> Wake
         requires { IsNone self.old.control.gone }
-        ensures answers { PipeAnswers self.old (EndReader code) (Woke result) self.new }
+        ensures answers { PipeAnswers self.old (EndReader code ∷ []) (Woke result) self.new }
         ensures draft { self.new.bytes.draft ≡ self.old.bytes.draft }
-        ensures committed { self.new.control.committed ≡ self.old.control.committed }
     {
         self.buffer.release_all();
         self.control.end_reader(code)
@@ -261,7 +251,7 @@ impl PlainPipe {
 
     /// Ends the pending read or the next one, as `Control::cancel_read` does. Bytes, draft and lend stay.
     pub fn cancel_read(&mut self) -> Wake
-        ensures answers { PipeAnswers self.old CancelRead (Woke result) self.new }
+        ensures answers { PipeAnswers self.old (CancelRead ∷ []) (Woke result) self.new }
         ensures bytes { self.new.bytes ≡ self.old.bytes }
     {
         self.control.cancel_read()
@@ -269,7 +259,7 @@ impl PlainPipe {
 
     /// Ends the pending flush or the next one, as `Control::cancel_flush` does. Bytes, draft and pause stay.
     pub fn cancel_flush(&mut self) -> Wake
-        ensures answers { PipeAnswers self.old CancelFlush (Woke result) self.new }
+        ensures answers { PipeAnswers self.old (CancelFlush ∷ []) (Woke result) self.new }
         ensures bytes { self.new.bytes ≡ self.old.bytes }
     {
         self.control.cancel_flush()

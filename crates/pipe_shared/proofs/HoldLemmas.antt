@@ -10,6 +10,7 @@ use Rattle.pipe_shared.specs.declared.state.PipeState.{PipeState}
 use Rattle.pipe_shared.specs.declared.faults.TryFault.{TryFault}
 use Rattle.pipe_shared.specs.declared.faults.TryFault.TheVariants.{Busy, Worn}
 use Rattle.pipe_shared.specs.declared.faults.FlushFault.{FlushFault}
+use Rattle.pipe_shared.specs.Name.{Name}
 use Rattle.pipe_shared.specs.Options.{room_of}
 use Rattle.pipe_shared.specs.Log.{calls_of}
 use Rattle.pipe_shared.specs.Faults.{flush_fault}
@@ -21,7 +22,7 @@ use Rattle.pipe_shared.proofs.StateLemmas.{calls_with}
 use Rattle.pipe_shared.proofs.SeenLemmas.{Others, others, same_writer_end, same_reader_end, same_lend, kept_less}
 use Rattle.pipe_shared.proofs.TurnLemmas.{off, won}
 
-module _ (cell : CellState Options) (old taken : Seat) (held : HeldState PipeState) (s : PipeState) (turn : HasTurn cell old held taken) (was : s ≡ held.state) where
+module _ (cell : CellState Name) (old taken : Seat) (held : HeldState PipeState) (s : PipeState) (turn : HasTurn cell old held taken) (was : s ≡ held.state) where
   pub keeps : Keeps s taken.seen
   keeps = subst (λ (x : PipeState). Keeps x taken.seen) (sym was) turn.takes.stand
 
@@ -30,11 +31,11 @@ module _ (cell : CellState Options) (old taken : Seat) (held : HeldState PipeSta
 
   pub attended : Attends old → IsNone s.plain.control.gone
   attended a =
-      let gone : s.plain.control.gone ≡ None = keeps.stands.marks.gone ∙ same_reader_end (calls_of old.seen) (calls_of taken.seen) (seen_by 1 a.end) ∙ a.attended in
+      let gone : s.plain.control.gone ≡ None = keeps.stands.plain.marks.gone ∙ same_reader_end (calls_of old.seen) (calls_of taken.seen) (seen_by 1 a.end) ∙ a.attended in
       subst IsNone (sym gone) refl
 
   lent_is : Attends old → s.plain.control.lent ≡ option_map length (lend (calls_of old.seen))
-  lent_is a = keeps.stands.marks.lent ∙ ap (option_map length) (same_lend (calls_of old.seen) (calls_of taken.seen) (seen_by 1 a.end))
+  lent_is a = keeps.stands.plain.marks.lent ∙ ap (option_map length) (same_lend (calls_of old.seen) (calls_of taken.seen) (seen_by 1 a.end))
 
   pub no_lend : Attends old → lend (calls_of old.seen) ≡ None → IsNone s.plain.control.lent
   no_lend a none = subst IsNone (sym (lent_is a ∙ ap (option_map length) none)) refl
@@ -48,15 +49,15 @@ module _ (cell : CellState Options) (old taken : Seat) (held : HeldState PipeSta
 
   pub going : (options : Options) (size : ℕ) → HasRoom options old size → IsNone s.plain.control.ended
   going options size r =
-      let ended : s.plain.control.ended ≡ None = keeps.stands.marks.ended ∙ same_writer_end (calls_of old.seen) (calls_of taken.seen) (seen_by 0 r.end) ∙ r.going in
+      let ended : s.plain.control.ended ≡ None = keeps.stands.plain.marks.ended ∙ same_writer_end (calls_of old.seen) (calls_of taken.seen) (seen_by 0 r.end) ∙ r.going in
       subst IsNone (sym ended) refl
 
-  pub has_room : (size : ℕ) → HasRoom cell.name old size → size ≤ length s.plain.bytes.free
+  pub has_room : (size : ℕ) → HasRoom cell.name.options old size → size ≤ length s.plain.bytes.free
   has_room size r =
       let less = kept_less (calls_of old.seen) (calls_of taken.seen) (seen_by 0 r.end) in
-      let options : s.options ≡ cell.name = ap (λ (x : PipeState). x.options) was ∙ turn.named in
-      let room = keeps.room ∙ ap room_of options in
-      omega (arith, less, room, ap length keeps.settled, ap length keeps.stands.held, r.fits)
+      let options : s.options ≡ cell.name.options = ap (λ (x : PipeState). x.options) was ∙ turn.named in
+      let room = keeps.stands.room ∙ ap room_of options in
+      omega (arith, less, room, ap length keeps.stands.settled, ap length keeps.stands.plain.held, r.fits)
 
 -- the same refusal, of a flush
 pub refuses_flush : {T : Type 0} (size : ℕ) (fault : TryFault) (old new : Seat) (r : Result T FlushFault) → IsErrAnd r (λ given. given ≡ flush_fault fault) → Refuses fault old new

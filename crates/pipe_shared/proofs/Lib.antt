@@ -1,4 +1,5 @@
 pub mod StateLemmas
+pub mod SpanLemmas
 pub mod RoomLemmas
 pub mod SeenLemmas
 pub mod TurnLemmas

@@ -3,22 +3,21 @@ use Rattle.std.proofs.Common.{◌≡◌, ◌≤◌, ◌+◌, ◌-◌, ℕ, List,
 use Rattle.std.proofs.lemmas.List.{length-take, length-drop, take-take, drop-take}
 use Rattle.turn_cell.specs.History.{made_by}
 use Rattle.pipe_core.specs.declared.reply.Wake.{Wake}
-use Rattle.pipe_core.specs.History.{Call, Commit, Read, Advance, EndReader}
-use Rattle.pipe_core.specs.Legal.{seat_of}
-use Rattle.pipe_core.specs.Wakes.{wakes_of}
-use Rattle.pipe_core.specs.Answers.{Answer, Flushed, answer_to}
+use Rattle.pipe_core.specs.History.{Run, Call, Commit, Read, Advance, EndReader, bytes_of, run_in, seat_of}
+use Rattle.pipe_core.specs.Answers.{Answer, Flushed, answer_at_once}
 use Rattle.pipe_core.specs.Bytes.{Bytes, with_draft}
-use Rattle.pipe_core.specs.Pipe.{Pipe, HoldsFor, PipeAnswers, PipeCloses, kept, runs_of, closing}
+use Rattle.pipe_core.specs.Pipe.{Pipe, HoldsFor, Made, PipeAnswers, kept}
+use Rattle.pipe_core.proofs.RunLemmas.{run_in_bytes}
 use Rattle.pipe_core.proofs.PipeLemmas.{kept_advance}
 use Rattle.pipe_shared.specs.declared.options.Options.{Options}
 use Rattle.pipe_shared.specs.Log.{calls_of}
-use Rattle.pipe_shared.specs.Local.{Local, with_free, local_of, IsLocal, LocalAnswers, LocalCompletes, with_drafted}
-use Rattle.pipe_shared.proofs.StateLemmas.{calls_with, calls_with_last, one_more, all_last}
+use Rattle.pipe_shared.specs.Local.{Local, with_free, local_of, IsLocal, LocalAnswers, LocalKeeps, with_drafted}
+use Rattle.pipe_shared.proofs.StateLemmas.{more_by, calls_behind}
 use Rattle.pipe_shared.proofs.EndLemmas.{kept_commit}
 use Rattle.std.specs.Prelude.{Result, Ok, Err, IfOk, OnOk, OnErr}
 use Rattle.pipe_core.specs.declared.reply.FlushReply.{FlushReply}
 use Rattle.pipe_core.specs.declared.reply.TooMuch.{TooMuch}
-use Rattle.std.proofs.lemmas.List.Elements.{All-append}
+use Rattle.std.specs.List.{AllByRecursion}
 
 -- what a pipe stands for has nothing to do with what is free
 pub whole : (p : Pipe) (free : List ℕ) (h : List Call) → HoldsFor (with_free p free) h → HoldsFor p h
@@ -27,102 +26,92 @@ whole p free h s = record { marks = s.marks; held = s.held }
 pub part : (p : Pipe) (free : List ℕ) (h : List Call) → HoldsFor p h → HoldsFor (with_free p free) h
 part p free h s = record { marks = s.marks; held = s.held }
 
-pub local_answers : (options : Options) (p q : Pipe) (granted more : ℕ) (call : Call) (answer : Answer) → IsLocal options p granted → PipeAnswers p call answer q → LocalAnswers (local_of options p granted) call answer (local_of options q more)
-local_answers options p q granted more call answer l a = record {
-  options = refl;
+pub local_answers : (options : Options) (p q : Pipe) (granted more : ℕ) (calls : List Call) (answer : Answer) → IsLocal options p granted → PipeAnswers p calls answer q → LocalAnswers (local_of options p granted) calls answer (local_of options q more)
+local_answers options p q granted more calls answer l a = record {
+  kept = refl;
   ended = a.ended;
   gone = a.gone;
   lent = a.lent;
   told = λ h s. a.told h (whole p (take granted p.bytes.free) h s) ∙ both p.control.pause options.pause p.control.resume options.resume h l.pause l.resume;
-  stands = λ h s. part q (take more q.bytes.free) (call ∷ h) (a.stands h (whole p (take granted p.bytes.free) h s));
-  keeps = λ history k. record {
-    seats = one_more history call k.seats;
-    stands = subst (HoldsFor (with_free q (take more q.bytes.free))) (sym (calls_with history (seat_of call) (call ∷ [])))
-        (part q (take more q.bytes.free) (call ∷ calls_of history) (a.stands (calls_of history) (whole p (take granted p.bytes.free) (calls_of history) k.stands)));
-  };
+  stands = λ h s. part q (take more q.bytes.free) (calls ++ h) (a.stands h (whole p (take granted p.bytes.free) h s));
 }
   where
-    both : (p p' r r' : ℕ) (h : List Call) → p ≡ p' → r ≡ r' → answer_to p r call h ≡ answer_to p' r' call h
+    both : (p p' r r' : ℕ) (h : List Call) → p ≡ p' → r ≡ r' → answer_at_once p r calls h ≡ answer_at_once p' r' calls h
     both p p' r r' h e f = rw (e, f) refl
 
-pub local_completes : (options : Options) (p q : Pipe) (granted more : ℕ) (draft : List ℕ) (code : ℕ) (wake : Wake) → IsLocal options p granted → PipeCloses p (closing draft code) wake q
-    → LocalCompletes (local_of options p granted) draft code wake (local_of options q more)
-local_completes options p q granted more draft code wake l a = record {
-  options = refl;
-  ended = a.ended;
-  gone = a.gone;
-  lent = a.lent;
-  told = λ h s. a.told h (whole p (take granted p.bytes.free) h s) ∙ both p.control.pause options.pause p.control.resume options.resume h l.pause l.resume;
-  stands = λ h s. part q (take more q.bytes.free) (closing draft code ++ h) (a.stands h (whole p (take granted p.bytes.free) h s));
-  keeps = λ history k. record {
-    seats = All-append (λ (e : ℕ × Call). e.0 ≡ seat_of e.1) history (made_by 0 (reverse (closing draft code))) k.seats (all_last draft code);
-    stands = subst (HoldsFor (with_free q (take more q.bytes.free))) (sym (calls_with_last history draft code))
-        (part q (take more q.bytes.free) (closing draft code ++ calls_of history) (a.stands (calls_of history) (whole p (take granted p.bytes.free) (calls_of history) k.stands)));
-  };
+-- calls of one seat stand in its log with the number of that seat
+pub logged : (seat : ℕ) (before after : Local) (calls : List Call) (answer : Answer) (history : List (ℕ × Call)) → AllByRecursion (λ call. seat_of call ≡ seat) calls → LocalAnswers before calls answer after
+    → LocalKeeps before history → LocalKeeps after (history ++ made_by seat (reverse calls))
+logged seat before after calls answer history mine a k = record {
+  seats = more_by seat history calls mine k.seats;
+  stands = subst (HoldsFor after.pipe) (sym (calls_behind history seat calls)) (a.stands (calls_of history) k.stands);
 }
-  where
-    both : (p p' r r' : ℕ) (h : List Call) → p ≡ p' → r ≡ r' → wakes_of p r (closing draft code) h ≡ wakes_of p' r' (closing draft code) h
-    both p p' r r' h e f = rw (e, f) refl
 
 -- what was granted is still free where no more is held and drafted than before
-still_local : (options : Options) (p q : Pipe) (granted : ℕ) (call : Call) (answer : Answer) → IsLocal options p granted → PipeAnswers p call answer q
+still_local : (options : Options) (p q : Pipe) (granted : ℕ) (calls : List Call) (answer : Answer) → IsLocal options p granted → PipeAnswers p calls answer q
     → length q.bytes.held + length q.bytes.draft ≤ length p.bytes.held + length p.bytes.draft → IsLocal options q granted
-still_local options p q granted call answer l a less = record {
-  history = (call ∷ l.history.0, a.stands l.history.0 l.history.1);
-  pause = a.pause ∙ l.pause;
-  resume = a.resume ∙ l.resume;
-  room = a.capacity ∙ l.room;
-  within = omega (arith, l.within, a.capacity, less);
+still_local options p q granted calls answer l a less = record {
+  history = (calls ++ l.history.0, a.stands l.history.0 l.history.1);
+  pause = ap (λ (m : Made). m.thresholds.pause) a.kept ∙ l.pause;
+  resume = ap (λ (m : Made). m.thresholds.resume) a.kept ∙ l.resume;
+  room = ap (λ (m : Made). m.capacity) a.kept ∙ l.room;
+  within = omega (arith, l.within, ap (λ (m : Made). m.capacity) a.kept, less);
   segment = l.segment;
+  small = l.small;
 }
 
-pub local_flush : (options : Options) (p q : Pipe) (granted : ℕ) (answer : Answer) → IsLocal options p granted → PipeAnswers p (Commit (runs_of p.bytes.draft)) answer q → q.bytes.draft ≡ [] → IsLocal options q granted
-local_flush options p q granted answer l a none =
+local_flush : (options : Options) (p q : Pipe) (granted : ℕ) (answer : Answer) → IsLocal options p granted → ((runs : List Run) → bytes_of runs ≡ p.bytes.draft → PipeAnswers p (Commit runs ∷ []) answer q) → q.bytes.draft ≡ []
+    → IsLocal options q granted
+local_flush options p q granted answer l all none =
     let h = l.history.0 in
     let s = l.history.1 in
+    let runs = run_in 0 p.bytes.draft in
+    let are = run_in_bytes 0 p.bytes.draft in
+    let a = all runs are in
     let held = (a.stands h s).held in
-    still_local options p q granted (Commit (runs_of p.bytes.draft)) answer l a
-    (omega (arith, ap length held, ap length s.held, ap length none, kept_commit p.bytes.draft h s.marks.legal))
+    still_local options p q granted (Commit runs ∷ []) answer l a
+    (omega (arith, ap length held, ap length s.held, ap length none, ap length are, kept_commit runs h s.marks.legal))
 
 pub local_flushes : (options : Options) (p q : Pipe) (granted : ℕ) (r : Result (FlushReply × Wake) TooMuch) → IsLocal options p granted
-    → IfOk r (λ answer. PipeAnswers p (Commit (runs_of p.bytes.draft)) (Flushed answer.0 answer.1) q)
-    → IfOk r (λ answer. LocalAnswers (local_of options p granted) (Commit (runs_of p.bytes.draft)) (Flushed answer.0 answer.1) (local_of options q granted))
-local_flushes options p q granted (Ok answer) l a = local_answers options p q granted granted (Commit (runs_of p.bytes.draft)) (Flushed answer.0 answer.1) l a
+    → IfOk r (λ answer. (runs : List Run) → bytes_of runs ≡ p.bytes.draft → PipeAnswers p (Commit runs ∷ []) (Flushed answer.0 answer.1) q)
+    → IfOk r (λ answer. (runs : List Run) → bytes_of runs ≡ p.bytes.draft → LocalAnswers (local_of options p granted) (Commit runs ∷ []) (Flushed answer.0 answer.1) (local_of options q granted))
+local_flushes options p q granted (Ok answer) l a = λ runs are. local_answers options p q granted granted (Commit runs ∷ []) (Flushed answer.0 answer.1) l (a runs are)
 local_flushes options p q granted (Err refused) l a = tt
 
 -- after a flush, however that was answered
 pub local_flushed : (options : Options) (p q : Pipe) (granted : ℕ) (r : Result (FlushReply × Wake) TooMuch) → IsLocal options p granted
-    → IfOk r (λ answer. PipeAnswers p (Commit (runs_of p.bytes.draft)) (Flushed answer.0 answer.1) q) → OnOk r (q.bytes.draft ≡ []) → OnErr r (q ≡ p) → IsLocal options q granted
+    → IfOk r (λ answer. (runs : List Run) → bytes_of runs ≡ p.bytes.draft → PipeAnswers p (Commit runs ∷ []) (Flushed answer.0 answer.1) q) → OnOk r (q.bytes.draft ≡ []) → OnErr r (q ≡ p) → IsLocal options q granted
 local_flushed options p q granted (Ok answer) l a none same = local_flush options p q granted (Flushed answer.0 answer.1) l a none
 local_flushed options p q granted (Err refused) l a none same = subst (λ (x : Pipe). IsLocal options x granted) (sym same) l
 
-pub local_read : (options : Options) (p q : Pipe) (granted : ℕ) (answer : Answer) → IsLocal options p granted → PipeAnswers p Read answer q → q.bytes ≡ p.bytes → IsLocal options q granted
+pub local_read : (options : Options) (p q : Pipe) (granted : ℕ) (answer : Answer) → IsLocal options p granted → PipeAnswers p (Read ∷ []) answer q → q.bytes ≡ p.bytes → IsLocal options q granted
 local_read options p q granted answer l a same =
-    still_local options p q granted Read answer l a (omega (arith, ap (λ (b : Bytes). length b.held) same, ap (λ (b : Bytes). length b.draft) same))
+    still_local options p q granted (Read ∷ []) answer l a (omega (arith, ap (λ (b : Bytes). length b.held) same, ap (λ (b : Bytes). length b.draft) same))
 
-pub local_advance : (options : Options) (p q : Pipe) (granted c e : ℕ) (answer : Answer) → IsLocal options p granted → PipeAnswers p (Advance c e) answer q → q.bytes.draft ≡ p.bytes.draft → IsLocal options q granted
+pub local_advance : (options : Options) (p q : Pipe) (granted c e : ℕ) (answer : Answer) → IsLocal options p granted → PipeAnswers p (Advance c e ∷ []) answer q → q.bytes.draft ≡ p.bytes.draft → IsLocal options q granted
 local_advance options p q granted c e answer l a same =
     let h = l.history.0 in
     let s = l.history.1 in
     let held : length q.bytes.held ≡ length (kept (Advance c e ∷ h)) = ap length (a.stands h s).held in
     let front : length (drop c (kept h)) ≡ length (kept (Advance c e ∷ h)) = ap length (kept_advance c e h) in
-    still_local options p q granted (Advance c e) answer l a (omega (arith, held, front, length-drop c (kept h), ap length s.held, ap length same))
+    still_local options p q granted (Advance c e ∷ []) answer l a (omega (arith, held, front, length-drop c (kept h), ap length s.held, ap length same))
 
-pub local_end_reader : (options : Options) (p q : Pipe) (granted code : ℕ) (answer : Answer) → IsLocal options p granted → PipeAnswers p (EndReader code) answer q → q.bytes.draft ≡ p.bytes.draft → IsLocal options q granted
+pub local_end_reader : (options : Options) (p q : Pipe) (granted code : ℕ) (answer : Answer) → IsLocal options p granted → PipeAnswers p (EndReader code ∷ []) answer q → q.bytes.draft ≡ p.bytes.draft → IsLocal options q granted
 local_end_reader options p q granted code answer l a same =
     let h = l.history.0 in
     let held : length q.bytes.held ≡ length (kept (EndReader code ∷ h)) = ap length (a.stands h l.history.1).held in
     let none : length (kept (EndReader code ∷ h)) ≡ 0 = refl in
-    still_local options p q granted (EndReader code) answer l a (omega (arith, held, none, ap length same))
+    still_local options p q granted (EndReader code ∷ []) answer l a (omega (arith, held, none, ap length same))
 
-pub local_end_writer : (options : Options) (p q : Pipe) (granted : ℕ) (calls : List Call) (wake : Wake) → IsLocal options p granted → PipeCloses p calls wake q → IsLocal options q 0
-local_end_writer options p q granted calls wake l a = record {
+pub local_end_writer : (options : Options) (p q : Pipe) (granted : ℕ) (calls : List Call) (answer : Answer) → IsLocal options p granted → PipeAnswers p calls answer q → IsLocal options q 0
+local_end_writer options p q granted calls answer l a = record {
   history = (calls ++ l.history.0, a.stands l.history.0 l.history.1);
-  pause = a.pause ∙ l.pause;
-  resume = a.resume ∙ l.resume;
-  room = a.capacity ∙ l.room;
+  pause = ap (λ (m : Made). m.thresholds.pause) a.kept ∙ l.pause;
+  resume = ap (λ (m : Made). m.thresholds.resume) a.kept ∙ l.resume;
+  room = ap (λ (m : Made). m.capacity) a.kept ∙ l.room;
   within = omega arith;
   segment = l.segment;
+  small = l.small;
 }
 
 pub granted_len : (options : Options) (p : Pipe) (granted : ℕ) → IsLocal options p granted → length (take granted p.bytes.free) ≡ granted

@@ -3,12 +3,14 @@ use Rattle.std.proofs.Common.{◌≡◌, ◌≤◌, ◌+◌, ◌-◌, ℕ, List,
 use Rattle.std.specs.Prelude.{slice_range, Vec}
 use Rattle.std.specs.Vec.{with_items, with_items_from}
 use Rattle.std.proofs.lemmas.List.{length-append, length-drop, take_at, with_items_is}
+use Rattle.pipe_core.specs.History.{run_in}
 use Rattle.pipe_core.specs.Bytes.{overwritten}
+use Rattle.pipe_core.proofs.RunLemmas.{run_in_bytes}
 use Rattle.pipe_core.proofs.BufferLemmas.{slice_join, slice_front, slice_back, slice_len, slice_whole, same_front, written, written_before, written_behind, written_over}
-use Rattle.pipe_shared.specs.Rooms.{Drafted, drafted_in, with_told, Lent, lent_in}
+use Rattle.pipe_shared.specs.Rooms.{Drafted, own_segment, drafted_in, with_told, Lent, lent_in}
 
 abbrev drafted_of : List ℕ → List ℕ → ℕ → Drafted
-drafted_of draft free size = record { draft = draft; free = free; size = size }
+drafted_of draft free size = record { draft = run_in own_segment draft; free = free; size = size }
 
 same_drafted : (a a' b b' : List ℕ) (n n' : ℕ) → a ≡ a' → b ≡ b' → n ≡ n' → drafted_of a b n ≡ drafted_of a' b' n'
 same_drafted a a' b b' n n' e f g = rw (e, f, g) refl
@@ -18,7 +20,8 @@ pub told : (room : List ℕ) (drafted granted n : ℕ) → drafted ≤ granted �
 told room drafted granted n in_order within =
     let fits : drafted + n ≤ granted = omega (arith, slice_len room drafted granted) in
     same_drafted _ _ _ _ _ _
-    (sym (slice_join room 0 drafted (drafted + n) (omega arith) (omega arith)) ∙ ap (λ (ys : List ℕ). slice_range room 0 drafted ++ ys) (slice_front room drafted n granted fits))
+    (sym (slice_join room 0 drafted (drafted + n) (omega arith) (omega arith)) ∙ ap (λ (ys : List ℕ). slice_range room 0 drafted ++ ys) (slice_front room drafted n granted fits)
+    ∙ ap (λ (xs : List ℕ). xs ++ take n (slice_range room drafted granted)) (sym (run_in_bytes own_segment (slice_range room 0 drafted))))
     (slice_back room drafted n granted fits)
     refl
 

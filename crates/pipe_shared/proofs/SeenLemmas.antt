@@ -1,22 +1,22 @@
 -- What a seat that has seen more still knows: nobody else makes calls of its number.
-use Rattle.std.proofs.Common.{◌≡◌, ◌≢◌, ◌≤◌, ℕ, Bool, true, false, cond, eqb, List, [], ◌∷◌, ◌++◌, length, drop, reverse, refl, sym, ap, subst, ◌∙◌, arith, eq-eqb}
+use Rattle.std.proofs.Common.{◌≡◌, ◌≢◌, ◌≤◌, ℕ, Bool, true, false, cond, eqb, List, [], ◌∷◌, ◌++◌, length, drop, refl, sym, ap, subst, ◌∙◌, arith, eq-eqb, Some}
+use Rattle.std.proofs.lemmas.Bool.{eqb-true}
 use Rattle.std.proofs.lemmas.Bool.{false≢true}
 use Rattle.std.specs.Prelude.{map}
 use Rattle.std.specs.List.{All, filter}
-use Rattle.std.proofs.lemmas.List.{reverse-append, length-append, length-drop}
-use Rattle.std.proofs.lemmas.List.Elements.{All-nil, All-cons, All-head, All-tail, All-append}
+use Rattle.std.proofs.lemmas.List.{length-append, length-drop}
+use Rattle.std.proofs.lemmas.List.Elements.{All-nil, All-cons, All-head, All-tail}
 use Rattle.turn_cell.specs.History.{entries_of, made_by}
 use Rattle.turn_cell.specs.Seat.{after_put}
 use Rattle.turn_cell.proofs.HistoryLemmas.{entries_of-append, own_more}
-use Rattle.pipe_core.specs.History.{Call, Commit, EndWriter, Read, Advance, EndReader, CancelRead, CancelFlush, writer_end, reader_end}
-use Rattle.pipe_core.specs.Legal.{seat_of}
-use Rattle.pipe_core.specs.Lends.{lend}
+use Rattle.pipe_core.specs.History.{Call, Commit, EndWriter, Read, Advance, EndReader, CancelRead, CancelFlush, seat_of, last_of, writer_end, reader_end}
+use Rattle.pipe_core.specs.Lends.{bytes_lent_by, lend}
 use Rattle.pipe_core.specs.Pipe.{kept}
 use Rattle.pipe_core.proofs.PipeLemmas.{kept_advance}
 use Rattle.pipe_shared.specs.Log.{calls_of}
 use Rattle.pipe_shared.specs.Turns.{Seat, Wins}
 use Rattle.pipe_shared.specs.Ends.{IsEnd}
-use Rattle.pipe_shared.proofs.StateLemmas.{calls_of-append}
+use Rattle.pipe_shared.proofs.StateLemmas.{calls_of-append, All-reverse}
 
 abbrev IsBySeat : ℕ × Call → Type 0
 IsBySeat e = e.0 ≡ seat_of e.1
@@ -28,12 +28,6 @@ module _ {X : Type 0} where
   second_of : (P : X → Type 0) (xs ys : List X) → All P (xs ++ ys) → All P ys
   second_of P [] ys all = all
   second_of P (x ∷ xs) ys all = second_of P xs ys (All-tail P x (xs ++ ys) all)
-
-  All-reverse : (P : X → Type 0) (xs : List X) → All P xs → All P (reverse xs)
-  All-reverse P [] all = all
-  All-reverse P (x ∷ xs) all =
-      subst (All P) (sym (reverse-append (x ∷ []) xs))
-      (All-append P (reverse xs) (x ∷ []) (All-reverse P xs (All-tail P x xs all)) (All-cons P x [] (All-head P x xs all) (All-nil P)))
 
   -- what is no longer than its front has nothing behind it
   nothing_behind : (xs ys : List X) → xs ++ ys ≡ xs → ys ≡ []
@@ -92,15 +86,14 @@ reader_end_under (EndReader code ∷ more) h apart = absurd (All-head (IsNotBy 1
 reader_end_under (CancelRead ∷ more) h apart = reader_end_under more h (All-tail (IsNotBy 1) CancelRead more apart)
 reader_end_under (CancelFlush ∷ more) h apart = reader_end_under more h (All-tail (IsNotBy 1) CancelFlush more apart)
 
-lend_under : (more h : List Call) → All (IsNotBy 1) more → lend (more ++ h) ≡ lend h
-lend_under [] h apart = refl
-lend_under (Commit runs ∷ more) h apart = lend_under more h (All-tail (IsNotBy 1) (Commit runs) more apart)
-lend_under (EndWriter code ∷ more) h apart = lend_under more h (All-tail (IsNotBy 1) (EndWriter code) more apart)
-lend_under (Read ∷ more) h apart = absurd (All-head (IsNotBy 1) Read more apart refl)
-lend_under (Advance c e ∷ more) h apart = absurd (All-head (IsNotBy 1) (Advance c e) more apart refl)
-lend_under (EndReader code ∷ more) h apart = absurd (All-head (IsNotBy 1) (EndReader code) more apart refl)
-lend_under (CancelRead ∷ more) h apart = lend_under more h (All-tail (IsNotBy 1) CancelRead more apart)
-lend_under (CancelFlush ∷ more) h apart = lend_under more h (All-tail (IsNotBy 1) CancelFlush more apart)
+-- the last call of a seat is its own affair
+last_under : (k : ℕ) (more h : List Call) → All (IsNotBy k) more → last_of k (more ++ h) ≡ last_of k h
+last_under k [] h apart = refl
+last_under k (call ∷ more) h apart = each (eqb (seat_of call) k) refl (last_under k more h (All-tail (IsNotBy k) call more apart))
+  where
+    each : (b : Bool) → eqb (seat_of call) k ≡ b → last_of k (more ++ h) ≡ last_of k h → cond b (Some (call, more ++ h)) (last_of k (more ++ h)) ≡ last_of k h
+    each true is rest = absurd (All-head (IsNotBy k) call more apart (eqb-true (seat_of call) k is))
+    each false is rest = rest
 
 kept_under : (more h : List Call) → All (IsNotBy 0) more → length (kept (more ++ h)) ≤ length (kept h)
 kept_under [] h apart = omega arith
@@ -123,7 +116,7 @@ pub same_reader_end : (h g : List Call) → Others 1 h g → reader_end g ≡ re
 same_reader_end h g o = ap reader_end o.is ∙ reader_end_under o.more h o.apart
 
 pub same_lend : (h g : List Call) → Others 1 h g → lend g ≡ lend h
-same_lend h g o = ap lend o.is ∙ lend_under o.more h o.apart
+same_lend h g o = ap bytes_lent_by (ap (last_of 1) o.is ∙ last_under 1 o.more h o.apart)
 
 pub kept_less : (h g : List Call) → Others 0 h g → length (kept g) ≤ length (kept h)
 kept_less h g o = omega (arith, ap (λ (l : List Call). length (kept l)) o.is, kept_under o.more h o.apart)

@@ -1,18 +1,18 @@
 -- What attempts, made one behind the other, leave of an end.
-use Rattle.std.proofs.Common.{◌≡◌, ◌<◌, ◌≤◌, ◌^◌, ◌⊎◌, inl, inr, ℕ, ◌+◌, Bool, true, false, cond, List, [], ◌∷◌, ◌++◌, length, reverse, replicate, refl, sym, ap, subst, ◌∙◌, arith, Option, Some, None, append_assoc, append-nil}
-use Rattle.std.specs.Prelude.{IsNone, IsSomeAnd, option_map, Ok, Err}
+use Rattle.std.proofs.Common.{◌≡◌, ◌<◌, ◌≤◌, ◌^◌, ◌⊎◌, inl, inr, ℕ, ◌+◌, Bool, true, false, cond, List, [], ◌∷◌, ◌++◌, length, reverse, replicate, refl, sym, ap, subst, ◌∙◌, arith, Option, Some, None, append_assoc, append-nil, suc, ◌==◌}
+use Rattle.std.proofs.Math.Dec.{eqb-suc-zero}
+use Rattle.std.specs.Prelude.{IsNone, IsSomeAnd, option_map, Result, Ok, Err}
 use Rattle.std.proofs.lemmas.List.{replicate_more}
 use Rattle.pipe_core.specs.declared.reply.Wake.{Wake}
 use Rattle.pipe_core.specs.declared.reply.ReadReply.{ReadReply}
 use Rattle.pipe_core.specs.declared.reply.ReadReply.TheVariants as read
 use Rattle.pipe_core.specs.declared.reply.FlushReply.{FlushReply}
-use Rattle.pipe_core.specs.History.{Call, Commit, Read, writer_end}
+use Rattle.pipe_core.specs.History.{Run, Call, Commit, Read, bytes_of, closing, writer_end}
 use Rattle.pipe_core.specs.Progress.{total, examined, held, canceled_read}
 use Rattle.pipe_core.specs.Flushes.{reply_to_commit}
 use Rattle.pipe_core.specs.Reads.{read_is_ready, reply_to_read}
 use Rattle.pipe_core.specs.Lends.{lend}
 use Rattle.pipe_core.specs.Answers.{Answer, Flushed, Gave, Woke}
-use Rattle.pipe_core.specs.Pipe.{runs_of, closing}
 use Rattle.pipe_core.proofs.OrderLemmas.{ordered}
 use Rattle.pipe_shared.specs.declared.options.Options.{Options}
 use Rattle.pipe_shared.specs.declared.faults.TryFault.{TryFault}
@@ -23,12 +23,12 @@ use Rattle.pipe_shared.specs.declared.faults.RoomFault.TheVariants as room
 use Rattle.pipe_shared.specs.Log.{calls_of}
 use Rattle.pipe_shared.specs.Faults.{is_tried_again}
 use Rattle.pipe_shared.specs.State.{len_of}
-use Rattle.pipe_shared.specs.Turns.{Seat, Refuses, RefusesFlush, FindsTooMuch, Makes, MakesLast}
+use Rattle.pipe_shared.specs.Turns.{Seat, Wins, Refuses, RefusesFlush, FindsTooMuch, Makes}
 use Rattle.pipe_shared.specs.Ends.{Writer, Reader}
 use Rattle.pipe_shared.specs.Granting.{Grants, GrantsAnew, Stays}
 use Rattle.pipe_shared.specs.Waiting.{Tried, untried, tried, AtLast}
-use Rattle.pipe_shared.specs.Attempts.{TriesRoom, TriesFlush, TriesCompletion, TriesRead, TriesToEnd, waits_for_room, waits_to_flush, waits_to_complete, waits_to_read, waits_for_turn, lends_nothing, FlushesOn, ReadsOn, CallsOnce, CompletesOnce}
-use Rattle.pipe_shared.proofs.StateLemmas.{calls_with, turned}
+use Rattle.pipe_shared.specs.Attempts.{TriesRoom, TriesFlush, TriesCompletion, TriesRead, TriesToEnd, waits_for_room, waits_to_flush, waits_to_complete, waits_to_read, waits_for_turn, lends_nothing, IsSince, FlushesOn, ReadsOn, CallsOnce}
+use Rattle.pipe_shared.proofs.StateLemmas.{calls_of-append}
 use Rattle.pipe_shared.proofs.EndLemmas.{calls_made}
 
 -- what a seat has made itself, after a refusal and after a call
@@ -36,8 +36,51 @@ pub refused_own : (fault : TryFault) (old new : Seat) → Refuses fault old new 
 refused_own (try.Busy word) old new r = ap (λ (s : Seat). s.own) r.after
 refused_own (try.Worn entries) old new r = ap (λ (s : Seat). s.own) r.wins.after
 
-pub made_own : (options : Options) (call : Call) (answer : Answer) (old new : Seat) → Makes options old call answer new → new.own ≡ old.own ++ call ∷ []
-made_own options call answer old new m = ap (λ (s : Seat). s.own) m.after ∙ ap (λ (s : Seat). s.own ++ call ∷ []) m.wins.after
+pub made_own : (options : Options) (calls : List Call) (answer : Answer) (old new : Seat) → Makes options old calls answer new → new.own ≡ old.own ++ reverse calls
+made_own options calls answer old new m = ap (λ (s : Seat). s.own) m.after ∙ ap (λ (s : Seat). s.own ++ reverse calls) m.wins.after
+
+-- what a seat has seen ends with what it had seen before, by each attempt and by many
+abbrev IsBehind : Seat → Seat → Type 0
+IsBehind old new = IsSince old (calls_of new.seen)
+
+behind_trans : (a b : Seat) (found : List Call) → IsBehind a b → IsSince b found → IsSince a found
+behind_trans a b found x y = (y.0 ++ x.0, y.1 ∙ ap (λ (l : List Call). y.0 ++ l) x.1 ∙ sym (append_assoc y.0 x.0 (calls_of a.seen)))
+
+won_behind : (old new : Seat) → Wins old new → IsBehind old new
+won_behind old new w = (calls_of w.begins.0, ap calls_of (sym w.begins.1) ∙ calls_of-append old.seen w.begins.0)
+
+refused_behind : (fault : TryFault) (old new : Seat) → Refuses fault old new → IsBehind old new
+refused_behind (try.Busy word) old new r = ([], ap (λ (s : Seat). calls_of s.seen) r.after)
+refused_behind (try.Worn entries) old new r = won_behind old new r.wins
+
+flush_behind : (size : ℕ) (fault : FlushFault) (old new : Seat) → RefusesFlush size fault old new → IsBehind old new
+flush_behind size (flush.Busy word) old new r = ([], ap (λ (s : Seat). calls_of s.seen) r.after)
+flush_behind size (flush.Worn entries) old new r = won_behind old new r.wins
+flush_behind size (flush.TooMuch total) old new r = won_behind old new r.wins
+
+made_behind : (options : Options) (calls : List Call) (answer : Answer) (old new : Seat) → Makes options old calls answer new → IsBehind old new
+made_behind options calls answer old new m = behind_trans old m.found (calls_of new.seen) (won_behind old m.found m.wins) (calls, calls_made calls m.found new m.after)
+
+tried_behind : {S A : Type 0} (seat : S → Seat) (attempt : S → A → S → Type 0) (waits : A → Bool) → ((a b : S) (met : A) → attempt a met b → IsBehind (seat a) (seat b)) → (old new : S) → Tried attempt waits old new → IsBehind (seat old) (seat new)
+tried_behind seat attempt waits each old new untried = ([], refl)
+tried_behind seat attempt waits each old new (tried before _ met t by waited) =
+    behind_trans (seat old) (seat before) (calls_of (seat new).seen) (tried_behind seat attempt waits each old before t) (each before new met by)
+
+reads_behind : (options : Options) (old new : Reader) (met : Result (ReadReply × Wake) TryFault) → TriesRead options old met new → IsBehind old.seat new.seat
+reads_behind options old new (Ok answer) by = made_behind options (Read ∷ []) (Gave answer.0 answer.1) old.seat new.seat by.0
+reads_behind options old new (Err fault) by = refused_behind fault old.seat new.seat by.0
+
+ends_behind : (options : Options) (call : Call) (old new : Reader) (met : Result Wake TryFault) → TriesToEnd options call old met new → IsBehind old.seat new.seat
+ends_behind options call old new (Ok wake) by = made_behind options (call ∷ []) (Woke wake) old.seat new.seat by.0
+ends_behind options call old new (Err fault) by = refused_behind fault old.seat new.seat by.0
+
+flushes_behind : (options : Options) (old new : Writer) (met : Result (FlushReply × Wake) FlushFault) → TriesFlush options old met new → IsBehind old.seat new.seat
+flushes_behind options old new (Ok answer) by = made_behind options (Commit old.draft ∷ []) (Flushed answer.0 answer.1) old.seat new.seat by.0
+flushes_behind options old new (Err fault) by = flush_behind (length (bytes_of old.draft)) fault old.seat new.seat by.0
+
+completes_behind : (options : Options) (code : ℕ) (old new : Writer) (met : Result Wake FlushFault) → TriesCompletion options code old met new → IsBehind old.seat new.seat
+completes_behind options code old new (Ok wake) by = made_behind options (closing old.draft code) (Woke wake) old.seat new.seat by.0
+completes_behind options code old new (Err fault) by = flush_behind (length (bytes_of old.draft)) fault old.seat new.seat by.0
 
 -- a call more behind calls of which all are the same
 one_more : (own before new : List Call) (call : Call) (n : ℕ) → before ≡ own ++ replicate n call → new ≡ before ++ call ∷ [] → new ≡ own ++ replicate (n + 1) call
@@ -54,12 +97,12 @@ lend_by_reply h = each (read_is_ready h)
 same_reply : (a b : ReadReply) (v w : Wake) → Gave a v ≡ Gave b w → a ≡ b
 same_reply a b v w e = cc
 
-module _ (options : Options) (old new : Seat) (reply : ReadReply) (wake : Wake) (made : Makes options old Read (Gave reply wake) new) where
+module _ (options : Options) (old new : Seat) (reply : ReadReply) (wake : Wake) (made : Makes options old (Read ∷ []) (Gave reply wake) new) where
   pub read_told : reply ≡ reply_to_read (calls_of made.found.seen)
   read_told = same_reply reply (reply_to_read (calls_of made.found.seen)) wake _ made.told
 
   pub read_seen : calls_of new.seen ≡ Read ∷ calls_of made.found.seen
-  read_seen = calls_made Read made.found new made.after
+  read_seen = calls_made (Read ∷ []) made.found new made.after
 
   pub read_lends : (lent : Option (List ℕ)) → lent ≡ lend (calls_of new.seen) → option_map length lent ≡ len_of reply
   read_lends lent is = ap (option_map length) (is ∙ ap lend read_seen) ∙ lend_by_reply (calls_of made.found.seen) ∙ ap len_of (sym read_told)
@@ -80,7 +123,7 @@ pub reads_tried : (options : Options) (old new : Reader) → Tried (TriesRead op
 reads_tried options old new untried = (0, sym (append-nil old.seat.own))
 reads_tried options old new (tried before _ (Ok answer) t attempt waits) =
     let more = reads_tried options old before t in
-    (more.0 + 1, one_more old.seat.own before.seat.own new.seat.own Read more.0 more.1 (made_own options Read (Gave answer.0 answer.1) before.seat new.seat attempt.0))
+    (more.0 + 1, one_more old.seat.own before.seat.own new.seat.own Read more.0 more.1 (made_own options (Read ∷ []) (Gave answer.0 answer.1) before.seat new.seat attempt.0))
 reads_tried options old new (tried before _ (Err fault) t attempt waits) =
     let more = reads_tried options old before t in
     (more.0, refused_own fault before.seat new.seat attempt.0 ∙ more.1)
@@ -91,10 +134,11 @@ reads_on options old new reply wake a =
     let made = a.last.0 in
     record {
       found = calls_of made.found.seen;
+      since = behind_trans old.seat a.before.seat _ (tried_behind (λ (r : Reader). r.seat) (TriesRead options) waits_to_read (reads_behind options) old a.before a.tried) (won_behind a.before.seat made.found made.wins);
       seen = read_seen options a.before.seat new.seat reply wake made;
       told = read_told options a.before.seat new.seat reply wake made;
       times = before.0;
-      own = made_own options Read (Gave reply wake) a.before.seat new.seat made ∙ ap (λ l. l ++ Read ∷ []) before.1;
+      own = made_own options (Read ∷ []) (Gave reply wake) a.before.seat new.seat made ∙ ap (λ l. l ++ Read ∷ []) before.1;
     }
 
 -- attempts at a call that waits for turns alone make no entry, and leave the lend
@@ -105,11 +149,12 @@ turns_tried options call old new (tried before _ (Err fault) t attempt waits) =
     let kept = turns_tried options call old before t in
     (refused_own fault before.seat new.seat attempt.0 ∙ kept.0, attempt.1 ∙ kept.1)
 
-pub called_once : (options : Options) (call : Call) (old before : Reader) (wake : Wake) (new : Seat) → Tried (TriesToEnd options call) waits_for_turn old before → Makes options before.seat call (Woke wake) new → CallsOnce old.seat call new
+pub called_once : (options : Options) (call : Call) (old before : Reader) (wake : Wake) (new : Seat) → Tried (TriesToEnd options call) waits_for_turn old before → Makes options before.seat (call ∷ []) (Woke wake) new → CallsOnce old.seat (call ∷ []) new
 called_once options call old before wake new t made = record {
   found = calls_of made.found.seen;
-  seen = calls_made call made.found new made.after;
-  own = made_own options call (Woke wake) before.seat new made ∙ ap (λ l. l ++ call ∷ []) (turns_tried options call old before t).0;
+  since = behind_trans old.seat before.seat _ (tried_behind (λ (r : Reader). r.seat) (TriesToEnd options call) waits_for_turn (ends_behind options call) old before t) (won_behind before.seat made.found made.wins);
+  seen = calls_made (call ∷ []) made.found new made.after;
+  own = made_own options (call ∷ []) (Woke wake) before.seat new made ∙ ap (λ l. l ++ call ∷ []) (turns_tried options call old before t).0;
 }
 
 -- what a writer had drafted, was granted and has made is as it was
@@ -121,7 +166,7 @@ pub record IsAsBefore (old new : Writer) : Type 0 where
 pub as_before : (a b c : Writer) → IsAsBefore a b → IsAsBefore b c → IsAsBefore a c
 as_before a b c f g = record { draft = g.draft ∙ f.draft; free = g.free ∙ f.free; own = g.own ∙ f.own }
 
-pub refused_flush : (fault : FlushFault) (old new : Writer) → RefusesFlush (length old.draft) fault old.seat new.seat → Stays old new → IsAsBefore old new
+pub refused_flush : (fault : FlushFault) (old new : Writer) → RefusesFlush (length (bytes_of old.draft)) fault old.seat new.seat → Stays old new → IsAsBefore old new
 refused_flush (flush.Busy word) old new r s = record { draft = s.draft; free = s.free; own = ap (λ (x : Seat). x.own) r.after }
 refused_flush (flush.Worn entries) old new r s = record { draft = s.draft; free = s.free; own = ap (λ (x : Seat). x.own) r.wins.after }
 refused_flush (flush.TooMuch total) old new r s = record { draft = s.draft; free = s.free; own = ap (λ (x : Seat). x.own) r.wins.after }
@@ -133,29 +178,24 @@ completion_tried options code old new (tried before _ (Ok wake) t attempt waits)
 completion_tried options code old new (tried before _ (Err fault) t attempt waits) =
     as_before old before new (completion_tried options code old before t) (refused_flush fault before new attempt.0 attempt.1)
 
-completed_once : (options : Options) (old before new : Seat) (draft : List ℕ) (code : ℕ) (wake : Wake) → before.own ≡ old.own → MakesLast options before draft code wake new → CompletesOnce old draft code new
-completed_once options old before new draft code wake same m = record {
-  found = calls_of m.found.seen;
-  seen = ap (λ (s : Seat). calls_of s.seen) m.after ∙ calls_with m.found.seen m.found.number (reverse (closing draft code)) ∙ ap (λ l. l ++ calls_of m.found.seen) (turned draft code);
-  own = ap (λ (s : Seat). s.own) m.after ∙ ap (λ (s : Seat). s.own ++ reverse (closing draft code)) m.wins.after ∙ ap (λ l. l ++ reverse (closing draft code)) same;
-}
-
-pub completes_once : (options : Options) (code : ℕ) (old before : Writer) (wake : Wake) (new : Seat) → Tried (TriesCompletion options code) waits_to_complete old before → MakesLast options before.seat before.draft code wake new
-    → CompletesOnce old.seat old.draft code new
+pub completes_once : (options : Options) (code : ℕ) (old before : Writer) (wake : Wake) (new : Seat) → Tried (TriesCompletion options code) waits_to_complete old before → Makes options before.seat (closing before.draft code) (Woke wake) new
+    → CallsOnce old.seat (closing old.draft code) new
 completes_once options code old before wake new t made =
     let kept = completion_tried options code old before t in
-    completed_once options old.seat before.seat new old.draft code wake kept.own (subst (λ d. MakesLast options before.seat d code wake new) kept.draft made)
-
--- the total of which a refusal tells, and that the draft would pass the most
-pub too_much : (size told : ℕ) (old new : Seat) (draft : List ℕ) → FindsTooMuch size told old new → size ≡ length draft → (told ≡ length (total (calls_of new.seen))) × (2 ^ 62 < told + length draft)
-too_much size told old new draft r same = (r.told, omega (arith, r.passes, same))
+    let m : Makes options before.seat (closing old.draft code) (Woke wake) new = subst (λ d. Makes options before.seat (closing d code) (Woke wake) new) kept.draft made in
+    record {
+      found = calls_of m.found.seen;
+      since = behind_trans old.seat before.seat _ (tried_behind (λ (w : Writer). w.seat) (TriesCompletion options code) waits_to_complete (completes_behind options code) old before t) (won_behind before.seat m.found m.wins);
+      seen = calls_made (closing old.draft code) m.found new m.after;
+      own = made_own options (closing old.draft code) (Woke wake) before.seat new m ∙ ap (λ l. l ++ reverse (closing old.draft code)) kept.own;
+    }
 
 -- the one refusal that isn't tried again
-pub refused_for_good : (fault : FlushFault) (old new : Writer) (draft : List ℕ) → RefusesFlush (length old.draft) fault old.seat new.seat → is_tried_again fault ≡ false → old.draft ≡ draft
-    → (fault ≡ flush.TooMuch (length (total (calls_of new.seat.seen)))) × (2 ^ 62 < length (total (calls_of new.seat.seen)) + length draft)
+pub refused_for_good : (fault : FlushFault) (old new : Writer) (draft : List Run) → RefusesFlush (length (bytes_of old.draft)) fault old.seat new.seat → is_tried_again fault ≡ false → old.draft ≡ draft
+    → (fault ≡ flush.TooMuch (length (total (calls_of new.seat.seen)))) × (2 ^ 62 < length (total (calls_of new.seat.seen)) + length (bytes_of draft))
 refused_for_good (flush.Busy word) old new draft r good same = absurd cc
 refused_for_good (flush.Worn entries) old new draft r good same = absurd cc
-refused_for_good (flush.TooMuch told) old new draft r good same = (ap (λ (n : ℕ). flush.TooMuch n) r.told, omega (arith, r.told, r.passes, ap length same))
+refused_for_good (flush.TooMuch told) old new draft r good same = (ap (λ (n : ℕ). flush.TooMuch n) r.told, omega (arith, r.told, r.passes, ap (λ (rs : List Run). length (bytes_of rs)) same))
 
 -- a commit more of nothing
 asked_again : (own before new : List Call) (first again : Call) (n : ℕ) → before ≡ own ++ first ∷ replicate n again → new ≡ before ++ again ∷ [] → new ≡ own ++ first ∷ replicate (n + 1) again
@@ -166,31 +206,41 @@ pub record HasFlushed (old new : Writer) : Type 0 where
   pub draft : new.draft ≡ []
   pub free : length new.free ≡ length old.free
   pub times : ℕ
-  pub own : new.seat.own ≡ old.seat.own ++ Commit (runs_of old.draft) ∷ replicate times (Commit [])
+  pub own : new.seat.own ≡ old.seat.own ++ Commit old.draft ∷ replicate times (Commit [])
 
-flushed_first : (options : Options) (answer : Answer) (old before new : Writer) → IsAsBefore old before → Makes options before.seat (Commit (runs_of before.draft)) answer new.seat → new.draft ≡ [] → length new.free ≡ length before.free → HasFlushed old new
+flushed_first : (options : Options) (answer : Answer) (old before new : Writer) → IsAsBefore old before → Makes options before.seat (Commit before.draft ∷ []) answer new.seat → new.draft ≡ [] → length new.free ≡ length before.free → HasFlushed old new
 flushed_first options answer old before new kept made none free = record {
   draft = none;
   free = free ∙ ap length kept.free;
   times = 0;
-  own = made_own options (Commit (runs_of before.draft)) answer before.seat new.seat made ∙ ap (λ (d : List ℕ). before.seat.own ++ Commit (runs_of d) ∷ []) kept.draft ∙ ap (λ l. l ++ Commit (runs_of old.draft) ∷ []) kept.own;
+  own = made_own options (Commit before.draft ∷ []) answer before.seat new.seat made ∙ ap (λ (d : List Run). before.seat.own ++ Commit d ∷ []) kept.draft ∙ ap (λ l. l ++ Commit old.draft ∷ []) kept.own;
 }
 
-flushed_again : (options : Options) (answer : Answer) (old before new : Writer) → HasFlushed old before → Makes options before.seat (Commit (runs_of before.draft)) answer new.seat → new.draft ≡ [] → length new.free ≡ length before.free → HasFlushed old new
+flushed_again : (options : Options) (answer : Answer) (old before new : Writer) → HasFlushed old before → Makes options before.seat (Commit before.draft ∷ []) answer new.seat → new.draft ≡ [] → length new.free ≡ length before.free → HasFlushed old new
 flushed_again options answer old before new h made none free = record {
   draft = none;
   free = free ∙ h.free;
   times = h.times + 1;
-  own = asked_again old.seat.own before.seat.own new.seat.own (Commit (runs_of old.draft)) (Commit []) h.times h.own
-      (made_own options (Commit (runs_of before.draft)) answer before.seat new.seat made ∙ ap (λ (d : List ℕ). before.seat.own ++ Commit (runs_of d) ∷ []) h.draft);
+  own = asked_again old.seat.own before.seat.own new.seat.own (Commit old.draft) (Commit []) h.times h.own
+      (made_own options (Commit before.draft ∷ []) answer before.seat new.seat made ∙ ap (λ (d : List Run). before.seat.own ++ Commit d ∷ []) h.draft);
 }
 
 flushed_not : (old before new : Writer) → HasFlushed old before → IsAsBefore before new → HasFlushed old new
 flushed_not old before new h kept = record { draft = kept.draft ∙ h.draft; free = ap length kept.free ∙ h.free; times = h.times; own = kept.own ∙ h.own }
 
-flushed : (options : Options) (answer : Answer) (old before new : Writer) → IsAsBefore old before ⊎ HasFlushed old before → Makes options before.seat (Commit (runs_of before.draft)) answer new.seat → new.draft ≡ [] → length new.free ≡ length before.free → HasFlushed old new
+flushed : (options : Options) (answer : Answer) (old before new : Writer) → IsAsBefore old before ⊎ HasFlushed old before → Makes options before.seat (Commit before.draft ∷ []) answer new.seat → new.draft ≡ [] → length new.free ≡ length before.free → HasFlushed old new
 flushed options answer old before new (inl kept) made none free = flushed_first options answer old before new kept made none free
 flushed options answer old before new (inr h) made none free = flushed_again options answer old before new h made none free
+
+not_none : (n : ℕ) → (n + 1 == 0) ≡ false
+not_none n = let e : n + 1 ≡ suc n = omega arith in rw e (eqb-suc-zero n)
+
+-- the last flush committed the draft where it was the first, and nothing else
+last_runs : (options : Options) (answer : Answer) (old before new : Writer) (x : IsAsBefore old before ⊎ HasFlushed old before) (made : Makes options before.seat (Commit before.draft ∷ []) answer new.seat) (none : new.draft ≡ []) (free : length new.free ≡ length before.free)
+    → before.draft ≡ cond ((flushed options answer old before new x made none free).times == 0) old.draft []
+unfolding flushed flushed_first flushed_again
+last_runs options answer old before new (inl kept) made none free = kept.draft
+last_runs options answer old before new (inr h) made none free = rw (not_none h.times) h.draft
 
 not_flushed : (old before new : Writer) → IsAsBefore old before ⊎ HasFlushed old before → IsAsBefore before new → IsAsBefore old new ⊎ HasFlushed old new
 not_flushed old before new (inl kept) same = inl (as_before old before new kept same)
@@ -206,7 +256,7 @@ flush_tried options old new (tried before _ (Err fault) t attempt waits) = not_f
 same_flush_reply : (a b : FlushReply) (v w : Wake) → Flushed a v ≡ Flushed b w → a ≡ b
 same_flush_reply a b v w e = cc
 
-module _ (options : Options) (old before new : Writer) (reply : FlushReply) (wake : Wake) (t : Tried (TriesFlush options) waits_to_flush old before) (made : Makes options before.seat (Commit (runs_of before.draft)) (Flushed reply wake) new.seat)
+module _ (options : Options) (old before new : Writer) (reply : FlushReply) (wake : Wake) (t : Tried (TriesFlush options) waits_to_flush old before) (made : Makes options before.seat (Commit before.draft ∷ []) (Flushed reply wake) new.seat)
     (none : new.draft ≡ []) (free : length new.free ≡ length before.free) where
   has_flushed : HasFlushed old new
   has_flushed = flushed options (Flushed reply wake) old before new (flush_tried options old before t) made none free
@@ -215,11 +265,14 @@ module _ (options : Options) (old before new : Writer) (reply : FlushReply) (wak
   same_free = has_flushed.free
 
   pub flushes_on : FlushesOn options old.seat old.draft reply new.seat
+  unfolding has_flushed
   flushes_on = record {
-    runs = runs_of before.draft;
+    runs = before.draft;
+    last = last_runs options (Flushed reply wake) old before new (flush_tried options old before t) made none free;
     found = calls_of made.found.seen;
-    seen = calls_made (Commit (runs_of before.draft)) made.found new.seat made.after;
-    told = same_flush_reply reply (reply_to_commit options.pause options.resume (calls_of made.found.seen) (runs_of before.draft)) wake _ made.told;
+    since = behind_trans old.seat before.seat _ (tried_behind (λ (w : Writer). w.seat) (TriesFlush options) waits_to_flush (flushes_behind options) old before t) (won_behind before.seat made.found made.wins);
+    seen = calls_made (Commit before.draft ∷ []) made.found new.seat made.after;
+    told = same_flush_reply reply (reply_to_commit options.pause options.resume (calls_of made.found.seen) before.draft) wake _ made.told;
     times = has_flushed.times;
     own = has_flushed.own;
   }
@@ -231,12 +284,12 @@ nothing_is_too_much size told old new r none =
     omega (arith, most, r.told, r.passes, none)
 
 -- so where it is too much, no flush was made before
-pub not_yet : (options : Options) (told : ℕ) (old before new : Writer) → Tried (TriesFlush options) waits_to_flush old before → FindsTooMuch (length before.draft) told before.seat new.seat → IsAsBefore old before
+pub not_yet : (options : Options) (told : ℕ) (old before new : Writer) → Tried (TriesFlush options) waits_to_flush old before → FindsTooMuch (length (bytes_of before.draft)) told before.seat new.seat → IsAsBefore old before
 not_yet options told old before new t r = each (flush_tried options old before t)
   where
     each : IsAsBefore old before ⊎ HasFlushed old before → IsAsBefore old before
     each (inl kept) = kept
-    each (inr h) = absurd (nothing_is_too_much (length before.draft) told before.seat new.seat r (ap length h.draft))
+    each (inr h) = absurd (nothing_is_too_much (length (bytes_of before.draft)) told before.seat new.seat r (ap (λ (rs : List Run). length (bytes_of rs)) h.draft))
 
 -- attempts at room leave the draft, and make no entry
 pub room_tried : (options : Options) (hint : ℕ) (old new : Writer) → Tried (TriesRoom options hint) waits_for_room old new → (new.draft ≡ old.draft) × (new.seat.own ≡ old.seat.own)
@@ -246,7 +299,7 @@ room_tried options hint old new (tried before _ (Err (room.Busy word)) t attempt
     let kept = room_tried options hint old before t in
     (attempt.1.draft ∙ kept.0, ap (λ (s : Seat). s.own) attempt.0.finds.after ∙ kept.1)
 room_tried options hint old new (tried before _ (Err (room.TooLarge asked segment)) t attempt waits) = absurd cc
-room_tried options hint old new (tried before _ (Err (room.Full held draft capacity)) t attempt waits) =
+room_tried options hint old new (tried before _ (Err (room.Full full)) t attempt waits) =
     let kept = room_tried options hint old before t in
     (attempt.1.draft ∙ kept.0, ap (λ (s : Seat). s.own) attempt.0.wins.after ∙ kept.1)
 
@@ -256,7 +309,7 @@ room_untried options hint old new untried large = refl
 room_untried options hint old new (tried before _ (Ok n) t attempt waits) large = absurd cc
 room_untried options hint old new (tried before _ (Err (room.Busy word)) t attempt waits) large = absurd (omega (arith, large, attempt.0.small))
 room_untried options hint old new (tried before _ (Err (room.TooLarge asked segment)) t attempt waits) large = absurd cc
-room_untried options hint old new (tried before _ (Err (room.Full held draft capacity)) t attempt waits) large = absurd (omega (arith, large, attempt.0.small))
+room_untried options hint old new (tried before _ (Err (room.Full full)) t attempt waits) large = absurd (omega (arith, large, attempt.0.small))
 
 pub granted_own : (options : Options) (hint n : ℕ) (old new : Writer) → Grants options hint n old new → new.seat.own ≡ old.seat.own
 granted_own options hint n old new g = each g.how

@@ -1,24 +1,26 @@
 -- What one attempt of each call makes of its end, and by which answers the call is tried again.
-use Rattle.std.specs.Prelude.{◌≡◌, ℕ, Bool, true, false, List, [], ◌∷◌, ◌++◌, length, replicate, reverse, None, Result, Ok, Err}
+use Rattle.std.specs.Prelude.{◌≡◌, ◌==◌, if◌then◌else◌, ℕ, Bool, true, false, List, [], ◌∷◌, ◌++◌, length, replicate, reverse, None, Result, Ok, Err}
 use Rattle.pipe_core.specs.declared.reply.Wake.{Wake}
 use Rattle.pipe_core.specs.declared.reply.ReadReply.{ReadReply}
 use Rattle.pipe_core.specs.declared.reply.ReadReply.TheVariants as read
 use Rattle.pipe_core.specs.declared.reply.FlushReply.{FlushReply}
 use Rattle.pipe_core.specs.declared.reply.FlushReply.TheVariants as flushed
-use Rattle.pipe_core.specs.History.{Run, Call, Commit, Read}
+use Rattle.pipe_core.specs.declared.reply.TooMuch.{TooMuch}
+use Rattle.pipe_core.specs.History.{Run, Call, Commit, Read, bytes_of, closing}
 use Rattle.pipe_core.specs.Reads.{reply_to_read}
 use Rattle.pipe_core.specs.Flushes.{reply_to_commit}
 use Rattle.pipe_core.specs.Lends.{lend}
 use Rattle.pipe_core.specs.Answers.{Flushed, Gave, Woke}
-use Rattle.pipe_core.specs.Pipe.{runs_of, closing}
 use Rattle.pipe_shared.specs.declared.options.Options.{Options}
 use Rattle.pipe_shared.specs.declared.faults.TryFault.{TryFault}
 use Rattle.pipe_shared.specs.declared.faults.FlushFault.{FlushFault}
+use Rattle.pipe_shared.specs.declared.faults.FlushFault.TheVariants as flush_fault
+use Rattle.pipe_shared.specs.Waiting.{AtLast}
 use Rattle.pipe_shared.specs.declared.faults.RoomFault.{RoomFault}
 use Rattle.pipe_shared.specs.declared.faults.RoomFault.TheVariants as room
 use Rattle.pipe_shared.specs.Log.{calls_of}
 use Rattle.pipe_shared.specs.Faults.{is_tried_again}
-use Rattle.pipe_shared.specs.Turns.{Seat, Refuses, RefusesFlush, Makes, MakesLast}
+use Rattle.pipe_shared.specs.Turns.{Seat, Refuses, RefusesFlush, Makes}
 use Rattle.pipe_shared.specs.Ends.{Writer, Reader}
 use Rattle.pipe_shared.specs.Granting.{Grants, RefusesRoom, Stays}
 
@@ -32,13 +34,13 @@ abbrev pub waits_for_room : Result ℕ RoomFault → Bool
 waits_for_room (Ok n) = false
 waits_for_room (Err (room.Busy word)) = true
 waits_for_room (Err (room.TooLarge hint segment)) = false
-waits_for_room (Err (room.Full held draft capacity)) = true
+waits_for_room (Err (room.Full told)) = true
 
 -- an attempt at a flush
 abbrev pub TriesFlush : Options → Writer → Result (FlushReply × Wake) FlushFault → Writer → Type 0
 TriesFlush options old (Ok answer) new =
-    Makes options old.seat (Commit (runs_of old.draft)) (Flushed answer.0 answer.1) new.seat × (new.draft ≡ []) × (length new.free ≡ length old.free)
-TriesFlush options old (Err fault) new = RefusesFlush (length old.draft) fault old.seat new.seat × Stays old new
+    Makes options old.seat (Commit old.draft ∷ []) (Flushed answer.0 answer.1) new.seat × (new.draft ≡ []) × (length new.free ≡ length old.free)
+TriesFlush options old (Err fault) new = RefusesFlush (length (bytes_of old.draft)) fault old.seat new.seat × Stays old new
 
 abbrev pub is_held_back : FlushReply → Bool
 is_held_back (flushed.Ready canceled code) = false
@@ -49,14 +51,19 @@ abbrev pub waits_to_flush : Result (FlushReply × Wake) FlushFault → Bool
 waits_to_flush (Ok answer) = is_held_back answer.0
 waits_to_flush (Err fault) = is_tried_again fault
 
+-- The attempts at a flush ended with this reply, and some wake, or since the total would be too much.
+abbrev pub FlushesAtLast : Options → Writer → Result FlushReply TooMuch → Writer → Type 0
+FlushesAtLast options old (Ok reply) new = (wake : Wake) × AtLast (TriesFlush options) waits_to_flush old (Ok (reply, wake)) new
+FlushesAtLast options old (Err refused) new = AtLast (TriesFlush options) waits_to_flush old (Err (flush_fault.TooMuch refused.total)) new
+
 -- a writer that has completed, of which its seat is left
 abbrev pub completed : Seat → Writer
 completed seat = record { seat = seat; draft = []; free = [] }
 
 -- an attempt at the writer's completion
 abbrev pub TriesCompletion : Options → ℕ → Writer → Result Wake FlushFault → Writer → Type 0
-TriesCompletion options code old (Ok wake) new = MakesLast options old.seat old.draft code wake new.seat × (new ≡ completed new.seat)
-TriesCompletion options code old (Err fault) new = RefusesFlush (length old.draft) fault old.seat new.seat × Stays old new
+TriesCompletion options code old (Ok wake) new = Makes options old.seat (closing old.draft code) (Woke wake) new.seat × (new ≡ completed new.seat)
+TriesCompletion options code old (Err fault) new = RefusesFlush (length (bytes_of old.draft)) fault old.seat new.seat × Stays old new
 
 -- The writer's completion waits for a turn.
 abbrev pub waits_to_complete : Result Wake FlushFault → Bool
@@ -65,7 +72,7 @@ waits_to_complete (Err fault) = is_tried_again fault
 
 -- an attempt at a read
 abbrev pub TriesRead : Options → Reader → Result (ReadReply × Wake) TryFault → Reader → Type 0
-TriesRead options old (Ok answer) new = Makes options old.seat Read (Gave answer.0 answer.1) new.seat × (new.lent ≡ lend (calls_of new.seat.seen))
+TriesRead options old (Ok answer) new = Makes options old.seat (Read ∷ []) (Gave answer.0 answer.1) new.seat × (new.lent ≡ lend (calls_of new.seat.seen))
 TriesRead options old (Err fault) new = Refuses fault old.seat new.seat × (new.lent ≡ old.lent)
 
 abbrev pub lends_nothing : ReadReply → Bool
@@ -83,7 +90,7 @@ without_lend seat = record { seat = seat; lent = None }
 
 -- an attempt at a call that ends the lend
 abbrev pub TriesToEnd : Options → Call → Reader → Result Wake TryFault → Reader → Type 0
-TriesToEnd options call old (Ok wake) new = Makes options old.seat call (Woke wake) new.seat × (new ≡ without_lend new.seat)
+TriesToEnd options call old (Ok wake) new = Makes options old.seat (call ∷ []) (Woke wake) new.seat × (new ≡ without_lend new.seat)
 TriesToEnd options call old (Err fault) new = Refuses fault old.seat new.seat × (new.lent ≡ old.lent)
 
 -- It waits for a turn.
@@ -91,31 +98,33 @@ abbrev pub waits_for_turn : Result Wake TryFault → Bool
 waits_for_turn (Ok wake) = false
 waits_for_turn (Err fault) = true
 
--- The seat read once or more often, and made no other call. The last read was answered so, behind all that was seen before it.
+-- These calls, the latest first, end with all that a seat had seen.
+abbrev pub IsSince : Seat → List Call → Type 0
+IsSince old found = (since : List Call) × (found ≡ since ++ calls_of old.seen)
+
+-- The seat read once or more often, and made no other call. The last read was answered so, behind all that was seen before it, which ends with what the seat had seen before the call.
 pub record ReadsOn (old : Seat) (reply : ReadReply) (new : Seat) : Type 0 where
   pub found : List Call
+  pub since : IsSince old found
   pub seen : calls_of new.seen ≡ Read ∷ found
   pub told : reply ≡ reply_to_read found
   pub times : ℕ
   pub own : new.own ≡ old.own ++ replicate times Read ++ Read ∷ []
 
--- The seat committed a draft, and then nothing as often as it asked again, and made no other call. The last commit was answered so, behind all that was seen before it.
-pub record FlushesOn (options : Options) (old : Seat) (draft : List ℕ) (reply : FlushReply) (new : Seat) : Type 0 where
+-- The seat committed a draft, and then nothing as often as it asked again, and made no other call. The last commit was answered so, behind all that was seen before it, which ends with what the seat had seen before the call.
+pub record FlushesOn (options : Options) (old : Seat) (draft : List Run) (reply : FlushReply) (new : Seat) : Type 0 where
+  pub times : ℕ
   pub runs : List Run
+  pub last : runs ≡ (if times == 0 then draft else [])
   pub found : List Call
+  pub since : IsSince old found
   pub seen : calls_of new.seen ≡ Commit runs ∷ found
   pub told : reply ≡ reply_to_commit options.pause options.resume found runs
-  pub times : ℕ
-  pub own : new.own ≡ old.own ++ Commit (runs_of draft) ∷ replicate times (Commit [])
+  pub own : new.own ≡ old.own ++ Commit draft ∷ replicate times (Commit [])
 
--- The seat made this call and no other, behind all that was seen before it.
-pub record CallsOnce (old : Seat) (call : Call) (new : Seat) : Type 0 where
+-- The seat made these calls, the latest first, at once, and no others, behind all that was seen before them, which ends with what the seat had seen before the call.
+pub record CallsOnce (old : Seat) (calls : List Call) (new : Seat) : Type 0 where
   pub found : List Call
-  pub seen : calls_of new.seen ≡ call ∷ found
-  pub own : new.own ≡ old.own ++ call ∷ []
-
--- The seat made the calls of the writer's completion and no others, behind all that was seen before them.
-pub record CompletesOnce (old : Seat) (draft : List ℕ) (code : ℕ) (new : Seat) : Type 0 where
-  pub found : List Call
-  pub seen : calls_of new.seen ≡ closing draft code ++ found
-  pub own : new.own ≡ old.own ++ reverse (closing draft code)
+  pub since : IsSince old found
+  pub seen : calls_of new.seen ≡ calls ++ found
+  pub own : new.own ≡ old.own ++ reverse calls

@@ -1,10 +1,10 @@
 -- What contracts see of the two ends of a pipe, and what is always so of them.
 use Rattle.std.specs.Prelude.{◌≡◌, ℕ, ◌+◌, ◌≤◌, false, List, length, Option, Some, None}
 use Rattle.turn_cell.specs.History.{entries_of}
-use Rattle.pipe_core.specs.History.{writer_end, reader_end}
+use Rattle.pipe_core.specs.History.{Run, bytes_of, writer_end, reader_end}
 use Rattle.pipe_core.specs.Lends.{lend}
 use Rattle.pipe_core.specs.Pipe.{kept}
-use Rattle.pipe_shared.specs.declared.options.Options.{Options}
+use Rattle.pipe_shared.specs.Name.{Name}
 use Rattle.pipe_shared.specs.Options.{room_of}
 use Rattle.pipe_shared.specs.Log.{calls_of}
 use Rattle.pipe_shared.specs.Turns.{Seat}
@@ -13,7 +13,7 @@ use Rattle.pipe_shared.specs.Rooms.{Drafted, Lent}
 -- The writer: its seat, the draft, and the free part that it was granted.
 pub record Writer : Type 0 where
   pub seat : Seat
-  pub draft : List ℕ
+  pub draft : List Run
   pub free : List ℕ
 
 -- The reader: its seat, and the bytes of the lend, where one stands.
@@ -31,12 +31,12 @@ pub record IsEnd (number : ℕ) (seat : Seat) : Type 0 where
 pub record IsWriter (seat : Seat) (d : Drafted) : Type 0 where
   pub end : IsEnd 0 seat
   pub going : writer_end (calls_of seat.seen) ≡ None
-  pub size : (options : Options) → seat.name ≡ Some options → d.size ≡ room_of options
-  pub fits : length (kept (calls_of seat.seen)) + (length d.draft + length d.free) ≤ d.size
+  pub size : (name : Name) → seat.name ≡ Some name → d.size ≡ room_of name.options
+  pub fits : length (kept (calls_of seat.seen)) + (length (bytes_of d.draft) + length d.free) ≤ d.size
 
 -- The reader has not completed, and its copy is of the lend that stands.
 pub record IsReader (seat : Seat) (l : Lent) : Type 0 where
   pub end : IsEnd 1 seat
   pub attended : reader_end (calls_of seat.seen) ≡ None
-  pub size : (options : Options) → seat.name ≡ Some options → l.size ≡ room_of options
+  pub size : (name : Name) → seat.name ≡ Some name → l.size ≡ room_of name.options
   pub lent : lend (calls_of seat.seen) ≡ l.bytes

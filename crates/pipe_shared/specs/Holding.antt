@@ -4,6 +4,7 @@ use Rattle.turn_cell.specs.Seat.{CellState, HeldState, Takes}
 use Rattle.pipe_core.specs.History.{writer_end, reader_end}
 use Rattle.pipe_core.specs.Pipe.{kept}
 use Rattle.pipe_shared.specs.declared.options.Options.{Options}
+use Rattle.pipe_shared.specs.Name.{Name}
 use Rattle.pipe_shared.specs.declared.state.PipeState.{PipeState}
 use Rattle.pipe_shared.specs.Options.{room_of}
 use Rattle.pipe_shared.specs.Log.{calls_of}
@@ -12,9 +13,9 @@ use Rattle.pipe_shared.specs.Turns.{Seat, worn_at}
 use Rattle.pipe_shared.specs.Ends.{IsEnd}
 
 -- The seat has the turn and holds the state of this cell, and the history takes more entries.
-pub record HasTurn (cell : CellState Options) (old : Seat) (held : HeldState PipeState) (new : Seat) : Type 0 where
+pub record HasTurn (cell : CellState Name) (old : Seat) (held : HeldState PipeState) (new : Seat) : Type 0 where
   pub takes : Takes Keeps old held new
-  pub named : held.state.options ≡ cell.name
+  pub named : held.state.options ≡ cell.name.options
   pub unworn : held.entries < worn_at
 
 -- The seat is that of a writer that has not completed, and so many bytes fit behind what it has seen to be committed and not consumed.

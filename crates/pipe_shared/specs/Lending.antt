@@ -4,7 +4,7 @@ use Rattle.std.specs.Borrow.{Lends, MutBor, Fml, Array, u8}
 use Rattle.pipe_core.specs.Bytes.{overwritten}
 use Rattle.pipe_shared.specs.Rooms.{Drafted}
 use Rattle.pipe_shared.specs.Ends.{Writer}
-use Rattle.pipe_shared.specs.contracts.room.DraftRoom as draft
+use Rattle.pipe_shared.specs.contracts.parts.Writing as draft
 use Rattle.pipe_shared.specs.contracts.ends.WriterEnd as writer
 
 abbrev pub LendsGranted : MutBor Drafted → MutBor (List ℕ) → Fml

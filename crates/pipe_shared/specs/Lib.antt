@@ -1,4 +1,5 @@
 pub mod Options
+pub mod Name
 pub mod Log
 pub mod Heard
 pub mod State

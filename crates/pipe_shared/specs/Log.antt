@@ -1,8 +1,8 @@
 -- The history of a pipe that several threads use: its calls in the order in which they were made, each with the number of the seat that made it.
 use Rattle.std.specs.Prelude.{◌≡◌, ℕ, List, map, reverse}
 use Rattle.std.specs.List.{All}
-use Rattle.pipe_core.specs.History.{Call}
-use Rattle.pipe_core.specs.Legal.{IsLegal, seat_of}
+use Rattle.pipe_core.specs.History.{Call, seat_of}
+use Rattle.pipe_core.specs.Legal.{IsLegal}
 
 -- the calls of a history, the latest first, as the questions about a pipe take them
 abbrev pub calls_of : List (ℕ × Call) → List Call

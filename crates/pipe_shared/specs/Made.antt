@@ -20,6 +20,9 @@ RefusesOptions options OutOfMemory = first_bad options ≡ None
 
 -- What a pipe has carried is told of one lawful history, which begins with all that each of its three seats had seen, has of each number just the entries that this one made, and has no others.
 pub record ClosesPipe (writer reader canceller : Seat) (closed : Closed) : Type 0 where
+  pub writer_number : writer.number ≡ 0
+  pub reader_number : reader.number ≡ 1
+  pub canceller_number : canceller.number ≡ 2
   pub history : List (ℕ × Call)
   pub lawful : IsLawful history
   pub writer_agrees : Agrees writer history

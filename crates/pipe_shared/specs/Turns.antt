@@ -1,15 +1,13 @@
 -- What the one exchange of a call tells its seat, and which entries the call makes.
-use Rattle.std.specs.Prelude.{◌≡◌, ℕ, ◌+◌, ◌*◌, ◌-◌, ◌^◌, ◌%◌, ◌<◌, ◌≤◌, List, [], ◌∷◌, length, reverse, IsNone}
+use Rattle.std.specs.Prelude.{◌≡◌, ℕ, ◌+◌, ◌*◌, ◌-◌, ◌^◌, ◌%◌, ◌<◌, ◌≤◌, List, length, reverse, IsNone}
 use mathlib.Core.List.{IsPrefix}
 use Rattle.turn_cell.specs.History.{entries_of}
 use Rattle.turn_cell.specs.Seat.{SeatState, after_find, after_put}
-use Rattle.pipe_core.specs.declared.reply.Wake.{Wake}
 use Rattle.pipe_core.specs.History.{Call, reader_end}
 use Rattle.pipe_core.specs.Progress.{total}
-use Rattle.pipe_core.specs.Wakes.{wakes_of}
-use Rattle.pipe_core.specs.Answers.{Answer, answer_to}
-use Rattle.pipe_core.specs.Pipe.{closing}
+use Rattle.pipe_core.specs.Answers.{Answer, answer_at_once}
 use Rattle.pipe_shared.specs.declared.options.Options.{Options}
+use Rattle.pipe_shared.specs.Name.{Name}
 use Rattle.pipe_shared.specs.declared.faults.TryFault.{TryFault}
 use Rattle.pipe_shared.specs.declared.faults.TryFault.TheVariants as try
 use Rattle.pipe_shared.specs.declared.faults.FlushFault.{FlushFault}
@@ -18,7 +16,7 @@ use Rattle.pipe_shared.specs.Log.{calls_of, IsLawful}
 
 -- the seat of an end, as contracts see it: what it has seen, its own entries, the number of its exchanges, and the last word found
 abbrev pub Seat : Type 0
-Seat = SeatState Call Options
+Seat = SeatState Call Name
 
 -- From so many entries on a history takes no more.
 abbrev pub worn_at : ℕ
@@ -61,20 +59,11 @@ RefusesFlush size (flush.Busy word) old new = FindsHeld word old new
 RefusesFlush size (flush.Worn entries) old new = FindsWorn entries old new
 RefusesFlush size (flush.TooMuch total_told) old new = FindsTooMuch size total_told old new
 
--- The turn was won, the history took one entry more, which is this call of this seat, and the answer is the one that the call has behind what was found.
-pub record Makes (options : Options) (old : Seat) (call : Call) (answer : Answer) (new : Seat) : Type 0 where
+-- The turn was won, the history took just these calls of this seat, the latest first, and the answer is the one that they have behind what was found.
+pub record Makes (options : Options) (old : Seat) (calls : List Call) (answer : Answer) (new : Seat) : Type 0 where
   pub found : Seat
   pub wins : Wins old found
   pub unworn : length found.seen < worn_at
-  pub told : answer ≡ answer_to options.pause options.resume call (calls_of found.seen)
-  pub after : new ≡ after_put (call ∷ []) found
-  pub lawful : IsLawful new.seen
-
--- The same of the calls of the writer's completion: a commit of the draft, where there is one, and the completion. Their wake is told.
-pub record MakesLast (options : Options) (old : Seat) (draft : List ℕ) (code : ℕ) (wake : Wake) (new : Seat) : Type 0 where
-  pub found : Seat
-  pub wins : Wins old found
-  pub unworn : length found.seen < worn_at
-  pub told : wake ≡ wakes_of options.pause options.resume (closing draft code) (calls_of found.seen)
-  pub after : new ≡ after_put (reverse (closing draft code)) found
+  pub told : answer ≡ answer_at_once options.pause options.resume calls (calls_of found.seen)
+  pub after : new ≡ after_put (reverse calls) found
   pub lawful : IsLawful new.seen

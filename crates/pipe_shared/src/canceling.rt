@@ -1,6 +1,6 @@
 //! The cancellations of a pipe.
 
-ghost use Rattle.std.specs.Prelude.{IfOk, IfErr};
+ghost use Rattle.std.specs.Prelude.{[], ◌∷◌, IfOk, IfErr};
 ghost use Rattle.turn_cell.specs.Seat.{IsOf, IsIdle};
 ghost use Rattle.pipe_core.specs.History.{CancelRead, CancelFlush};
 ghost use Rattle.pipe_core.specs.Answers.{Woke};
@@ -17,7 +17,7 @@ impl Pipe {
     pub fn try_cancel_read(&self, k: &mut Canceller) -> Result<Wake, TryFault>
         requires { IsOf self.now k.old }
         ensures pipe { IsIdle self.now k.new }
-        ensures made { IfOk result (λ wake. Makes self.now.name k.old CancelRead (Woke wake) k.new) }
+        ensures made { IfOk result (λ wake. Makes self.now.name.options k.old (CancelRead ∷ []) (Woke wake) k.new) }
         ensures refused { IfErr result (λ fault. Refuses fault k.old k.new) }
     {
         let wake = turns::cancel_read(&self.cell, &mut k.seat)?;
@@ -30,7 +30,7 @@ impl Pipe {
     pub fn try_cancel_flush(&self, k: &mut Canceller) -> Result<Wake, TryFault>
         requires { IsOf self.now k.old }
         ensures pipe { IsIdle self.now k.new }
-        ensures made { IfOk result (λ wake. Makes self.now.name k.old CancelFlush (Woke wake) k.new) }
+        ensures made { IfOk result (λ wake. Makes self.now.name.options k.old (CancelFlush ∷ []) (Woke wake) k.new) }
         ensures refused { IfErr result (λ fault. Refuses fault k.old k.new) }
     {
         let wake = turns::cancel_flush(&self.cell, &mut k.seat)?;

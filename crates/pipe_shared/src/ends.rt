@@ -2,17 +2,19 @@
 
 ghost use Rattle.std.specs.Prelude.{◌≡◌, ◌≤◌, ◌++◌, length, take, drop, is_some, Some, IsSome};
 ghost use Rattle.std.specs.Borrow.{sem};
+ghost use Rattle.span_seq.specs.Sequence.{bytes};
+ghost use Rattle.pipe_core.specs.History.{bytes_of, run_in};
+ghost use Rattle.pipe_shared.specs.Rooms.{own_segment};
 ghost use Rattle.pipe_core.specs.Lends.{lend};
 ghost use Rattle.pipe_shared.specs.Log.{calls_of};
 ghost use Rattle.pipe_shared.specs.Lending.{LendsSpare};
 
 use crate::faults::{FlushFault, TryFault};
-use crate::parking::Attempts;
-use crate::room::{DraftRoom, LendRoom};
+use crate::parts::{Reading, Writing};
 use crate::state::PipeState;
 use crossbeam_utils::sync::Parker;
+use span_seq::Sequence;
 use std::marker::Model;
-use std::sync::Wait;
 use turn_cell::TurnSeat;
 
 /// The writing end of a pipe: .NET's `PipeWriter`. It may go to another thread.
@@ -22,7 +24,7 @@ use turn_cell::TurnSeat;
 #[derive(Drop)]
 pub struct WriterEnd {
     pub(crate) seat: TurnSeat<PipeState>,
-    pub(crate) draft: DraftRoom,
+    pub(crate) part: Writing,
     pub(crate) parker: Parker,
 }
 
@@ -31,9 +33,9 @@ impl Model for WriterEnd {
 
     ghost Value = { Writer };
 
-    ghost view = { λ w. record { seat = w.seat; draft = w.draft.draft; free = w.draft.free } };
+    ghost view = { λ w. record { seat = w.seat; draft = w.part.draft; free = w.part.free } };
 
-    ghost invariant = { λ w. IsWriter w.seat w.draft };
+    ghost invariant = { λ w. IsWriter w.seat w.part };
 }
 
 impl WriterEnd {
@@ -43,30 +45,25 @@ impl WriterEnd {
         ensures* lends { sem 𝓛 (LendsSpare self.entry result) }
         ensures value { result.now ≡ self.old.free }
     {
-        self.draft.free_mut()
+        self.part.free_mut()
     }
 
     /// Takes the first `n` bytes of the free part to the end of the draft, as `PipeWriter.Advance` does.
     pub fn advance(&mut self, n: usize)
         requires { n ≤ length self.old.free }
-        ensures draft { self.new.draft ≡ self.old.draft ++ take n self.old.free }
+        ensures draft { bytes_of self.new.draft ≡ bytes_of self.old.draft ++ take n self.old.free }
+        ensures one_run { self.new.draft ≡ run_in own_segment (bytes_of self.new.draft) }
         ensures free { self.new.free ≡ drop n self.old.free }
         ensures seat { self.new.seat ≡ self.old.seat }
     {
-        self.draft.tell(n);
+        self.part.tell(n);
     }
 
     /// How many bytes are drafted: `PipeWriter.UnflushedBytes`.
     pub fn unflushed(&self) -> u64
-        ensures { result ≡ length self.now.draft }
+        ensures { result ≡ length (bytes_of self.now.draft) }
     {
-        self.draft.draft_len() as u64
-    }
-
-    /// Waits for the reader, behind a call that was answered Pending or Full: some turns of the processor at first, and then
-    /// its thread sleeps until a call of the reader, or a cancellation, makes it ready. It may return without a cause.
-    pub fn wait<R: Wait>(&self, rt: &R, attempts: &mut Attempts) {
-        attempts.wait_for_other(rt, &self.parker);
+        self.part.draft_len() as u64
     }
 }
 
@@ -74,7 +71,7 @@ impl WriterEnd {
 #[derive(Drop)]
 pub struct ReaderEnd {
     pub(crate) seat: TurnSeat<PipeState>,
-    pub(crate) lend: LendRoom,
+    pub(crate) part: Reading,
     pub(crate) parker: Parker,
 }
 
@@ -83,9 +80,9 @@ impl Model for ReaderEnd {
 
     ghost Value = { Reader };
 
-    ghost view = { λ r. record { seat = r.seat; lent = r.lend.bytes } };
+    ghost view = { λ r. record { seat = r.seat; lent = r.part.bytes } };
 
-    ghost invariant = { λ r. IsReader r.seat r.lend };
+    ghost invariant = { λ r. IsReader r.seat r.part };
 }
 
 impl ReaderEnd {
@@ -93,22 +90,16 @@ impl ReaderEnd {
     pub fn lending(&self) -> bool
         ensures { result ≡ is_some self.now.lent }
     {
-        self.lend.is_lending()
+        self.part.is_lending()
     }
 
     /// The bytes that the last read lent: `ReadResult.Buffer`. What was committed since is not among them.
-    pub fn lent(&self) -> &[u8]
+    pub fn lent(&self) -> Sequence<'_, Reading>
         requires { IsSome self.now.lent }
-        ensures lent { self.now.lent ≡ Some result.now }
-        ensures bytes { lend (calls_of self.now.seat.seen) ≡ Some result.now }
+        ensures lent { self.now.lent ≡ Some (bytes result) }
+        ensures bytes { lend (calls_of self.now.seat.seen) ≡ Some (bytes result) }
     {
-        self.lend.lent()
-    }
-
-    /// Waits for the writer, behind a read that was answered Pending: some turns of the processor at first, and then its
-    /// thread sleeps until a call of the writer, or a cancellation, makes it ready. It may return without a cause.
-    pub fn wait<R: Wait>(&self, rt: &R, attempts: &mut Attempts) {
-        attempts.wait_for_other(rt, &self.parker);
+        self.part.lent()
     }
 }
 

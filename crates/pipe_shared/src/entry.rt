@@ -1,4 +1,4 @@
-//! The entries of a pipe's history.
+//! The entries of a pipe's history, and the name of a pipe.
 
 use std::marker::Model;
 
@@ -15,4 +15,18 @@ impl Model for Entry {
     ghost Value = { Call };
 
     ghost view = { λ entry. Read };
+}
+
+/// What a pipe, its state and its seats are known by. It stands in contracts alone, and no value of this type is ever made.
+#[derive(Drop)]
+pub struct PipeName {
+    never: (),
+}
+
+impl Model for PipeName {
+    ghost use Rattle.pipe_shared.specs.Name.{Name};
+
+    ghost Value = { Name };
+
+    ghost view = { λ name. record { options = record { segment = 0; segments = 0; pause = 0; resume = 0 } } };
 }

@@ -21,41 +21,35 @@ pub enum FlushFault {
     TooMuch { total: u64 },
 }
 
+/// What fills a pipe that has no room for a hint, in bytes.
+#[derive(Clone, Copy, Debug, PartialEq, Eq)]
+pub struct Full {
+    /// How many are committed and not consumed: none once the reader has completed.
+    pub held: usize,
+    /// How many are drafted.
+    pub draft: usize,
+    /// For how many the pipe has room.
+    pub capacity: usize,
+}
+
 /// Why no room was granted. TooLarge comes before Busy, and Busy before Full.
 #[derive(Clone, Copy, Debug, PartialEq, Eq)]
 pub enum RoomFault {
     /// As `TryFault::Busy`.
-    Busy {
-        word: u64,
-    },
+    Busy { word: u64 },
     /// The hint, in bytes, is larger than a segment. No exchange was made.
-    TooLarge {
-        hint: usize,
-        segment: usize,
-    },
-    /// The pipe has no room for the hint: how many bytes are committed and not consumed (none once the reader has
-    /// completed), how many are drafted, and for how many the pipe has room.
-    Full {
-        held: usize,
-        draft: usize,
-        capacity: usize,
-    },
+    TooLarge { hint: usize, segment: usize },
+    /// The pipe has no room for the hint.
+    Full(Full),
 }
 
 /// Why a pipe for one thread granted no room.
 #[derive(Clone, Copy, Debug, PartialEq, Eq)]
 pub enum LocalRoomFault {
     /// As `RoomFault::TooLarge`.
-    TooLarge {
-        hint: usize,
-        segment: usize,
-    },
+    TooLarge { hint: usize, segment: usize },
     /// As `RoomFault::Full`.
-    Full {
-        held: usize,
-        draft: usize,
-        capacity: usize,
-    },
+    Full(Full),
 }
 
 impl FlushFault {

@@ -1,61 +1,89 @@
 //! What the calls of an end say of the histories that it has seen. These functions do nothing: what they ensure is the law.
 
-ghost use Rattle.std.specs.Prelude.{ℕ, ◌≤◌, List};
-ghost use Rattle.pipe_core.specs.declared.reply.Wake.{Wake};
-ghost use Rattle.pipe_core.specs.History.{Call};
+ghost use Rattle.std.specs.Prelude.{ℕ, ◌≡◌, ◌≤◌, ◌++◌, List, reverse};
+ghost use Rattle.std.specs.List.{AllByRecursion};
+ghost use Rattle.turn_cell.specs.History.{made_by};
+ghost use Rattle.pipe_core.specs.History.{Call, seat_of};
 ghost use Rattle.pipe_core.specs.Answers.{Answer};
+ghost use Rattle.pipe_core.specs.Pipe.{HoldsFor};
 ghost use Rattle.pipe_shared.specs.declared.faults.TryFault.{TryFault};
 ghost use Rattle.pipe_shared.specs.declared.options.Options.{Options};
 ghost use Rattle.pipe_shared.specs.Log.{calls_of};
-ghost use Rattle.pipe_shared.specs.Turns.{Makes, MakesLast, Refuses, Seat, Wins};
+ghost use Rattle.pipe_shared.specs.Turns.{Makes, Refuses, Seat, Wins};
 ghost use Rattle.pipe_shared.specs.Ends.{IsEnd};
-ghost use Rattle.pipe_shared.specs.Heard.{CallsBehind, CompletesBehind, Hears};
+ghost use Rattle.pipe_shared.specs.Heard.{CallsBehind, Hears};
+ghost use Rattle.pipe_shared.specs.Local.{Local, LocalAnswers, LocalKeeps};
 
-use crate::ends::{ReaderEnd, WriterDone, WriterEnd};
+use crate::ends::{Canceller, ReaderDone, ReaderEnd, WriterDone, WriterEnd};
+use crate::local::LocalPipe;
 use crate::pipe::Pipe;
 
-impl Pipe {
-    /// A segment has at least one byte, so no room for one byte is TooLarge.
-    pub fn has_segments(&self)
-        ensures { 1 ≤ self.now.name.segment }
-    {
-        let _ = &self.options;
-    }
+/// A segment has at least one byte, so no room for one byte is TooLarge.
+pub fn segments_have_a_byte(pipe: &Pipe)
+    ensures { 1 ≤ pipe.now.name.options.segment }
+{
+    let _ = &pipe.options;
 }
 
-impl WriterEnd {
-    /// A writer has the seat 0, and what it has made stands in what it has seen.
-    pub fn has_the_writers_seat(&self)
-        ensures { IsEnd 0 self.now.seat }
-    {
-        let _ = &self.seat;
-    }
+/// The same of a pipe for one thread.
+pub fn local_segments_have_a_byte(pipe: &LocalPipe)
+    ensures { 1 ≤ pipe.now.options.segment }
+{
+    let _ = &pipe.plain;
 }
 
-impl WriterDone {
-    /// A writer that has completed has the seat 0 too.
-    pub fn has_the_writers_seat(&self)
-        ensures { IsEnd 0 self.now }
-    {
-        let _ = &self.seat;
-    }
+/// A writer has the seat 0, and what it has made stands in what it has seen.
+pub fn writer_has_its_seat(writer: &WriterEnd)
+    ensures { IsEnd 0 writer.now.seat }
+{
+    let _ = &writer.seat;
 }
 
-impl ReaderEnd {
-    /// A reader has the seat 1, and what it has made stands in what it has seen.
-    pub fn has_the_readers_seat(&self)
-        ensures { IsEnd 1 self.now.seat }
-    {
-        let _ = &self.seat;
-    }
+/// A reader has the seat 1, and what it has made stands in what it has seen.
+pub fn reader_has_its_seat(reader: &ReaderEnd)
+    ensures { IsEnd 1 reader.now.seat }
+{
+    let _ = &reader.seat;
 }
 
-/// What an end had seen stays. Behind it stand calls that others made since, and behind these its own call, if it made one.
+/// A writer that has completed has the seat 0 too.
+pub fn done_writer_has_its_seat(writer: &WriterDone)
+    ensures { IsEnd 0 writer.now }
+{
+    let _ = &writer.seat;
+}
+
+/// A reader that has completed has the seat 1 too.
+pub fn done_reader_has_its_seat(reader: &ReaderDone)
+    ensures { IsEnd 1 reader.now }
+{
+    let _ = &reader.seat;
+}
+
+/// A canceller has the seat 2.
+pub fn canceller_has_its_seat(canceller: &Canceller)
+    ensures { IsEnd 2 canceller.now }
+{
+    let _ = &canceller.seat;
+}
+
+/// A pipe for one thread stands for some history, so what is said of it "for every history" is never empty.
+pub fn local_pipe_has_a_history(pipe: &LocalPipe)
+    ensures { (h : List Call) × HoldsFor pipe.now.pipe h }
+{
+    let _ = &pipe.plain;
+}
+
+/// Calls of a pipe for one thread stand in its history with the number of the seat that made them.
+pub fn local_history_grows()
+    ensures { (seat : ℕ) (before after : Local) (calls : List Call) (answer : Answer) (history : List (ℕ × Call)) → AllByRecursion (λ call. seat_of call ≡ seat) calls →
+        LocalAnswers before calls answer after → LocalKeeps before history → LocalKeeps after (history ++ made_by seat (reverse calls)) }
+{}
+
+/// What an end had seen stays. Behind it stand calls that others made since, and behind these its own, if it made any.
 pub fn others_are_heard_first()
-    ensures made { (number : ℕ) (options : Options) (call : Call) (answer : Answer) (old new : Seat) → IsEnd number old → Makes options old call answer new →
-        CallsBehind options number (calls_of old.seen) call answer (calls_of new.seen) }
-    ensures completed { (number : ℕ) (options : Options) (draft : List ℕ) (code : ℕ) (wake : Wake) (old new : Seat) → IsEnd number old → MakesLast options old draft code wake new →
-        CompletesBehind options number (calls_of old.seen) draft code wake (calls_of new.seen) }
+    ensures made { (number : ℕ) (options : Options) (calls : List Call) (answer : Answer) (old new : Seat) → IsEnd number old → Makes options old calls answer new →
+        CallsBehind options number (calls_of old.seen) calls answer (calls_of new.seen) }
     ensures won { (number : ℕ) (old new : Seat) → IsEnd number old → Wins old new → Hears number (calls_of old.seen) (calls_of new.seen) }
     ensures refused { (number : ℕ) (fault : TryFault) (old new : Seat) → IsEnd number old → Refuses fault old new → Hears number (calls_of old.seen) (calls_of new.seen) }
 {}

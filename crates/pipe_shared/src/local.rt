@@ -1,21 +1,23 @@
 //! The pipe for one thread.
 
-ghost use Rattle.std.specs.Prelude.{◌≡◌, ◌+◌, ◌*◌, ◌^◌, ◌<◌, ◌≤◌, ◌↔◌, List, [], length, max, Some, None, IsSome, IsNone, IsErr, IfOk, IfErr, OnOk, OnErr};
+ghost use Rattle.std.specs.Prelude.{◌≡◌, ◌+◌, ◌*◌, ◌^◌, ◌<◌, ◌≤◌, ◌↔◌, List, [], ◌∷◌, length, max, Some, None, IsSome, IsNone, IsErr, IfOk, IfErr, OnOk, OnErr};
 ghost use Rattle.std.specs.Borrow.{sem};
-ghost use Rattle.pipe_core.specs.History.{Call, Commit, Read, Advance, EndReader};
+ghost use Rattle.span_seq.specs.Sequence.{bytes};
+ghost use Rattle.pipe_core.specs.History.{Run, Call, Commit, Read, Advance, EndReader, bytes_of, closing, AreRunsOf};
 ghost use Rattle.pipe_core.specs.Lends.{lend};
 ghost use Rattle.pipe_core.specs.Answers.{Flushed, Gave, Woke};
 ghost use Rattle.pipe_core.specs.Standing.{MayAdvance};
-ghost use Rattle.pipe_core.specs.Pipe.{HoldsFor, runs_of};
+ghost use Rattle.pipe_core.specs.Pipe.{HoldsFor};
 ghost use Rattle.pipe_shared.specs.Options.{first_bad};
 ghost use Rattle.pipe_shared.specs.Made.{RefusesOptions};
-ghost use Rattle.pipe_shared.specs.Local.{LocalKeeps, LocalAnswers, LocalCompletes, LocalGrants, LocalRefuses, LocalCloses, with_drafted};
+ghost use Rattle.pipe_shared.specs.Local.{LocalKeeps, LocalAnswers, LocalGrants, LocalRefuses, LocalCloses, with_drafted};
 ghost use Rattle.pipe_shared.specs.LocalLending.{LendsLocal};
 
 use crate::faults::LocalRoomFault;
 use crate::options::{MakeError, Options};
 use crate::pipe::Closed;
 use pipe_core::{FlushReply, PlainPipe, ReadReply, TooMuch, Wake};
+use span_seq::{Sequence, Spans};
 use std::alloc::{AllocError, Global};
 use std::marker::Model;
 
@@ -24,7 +26,7 @@ use std::marker::Model;
 /// takes memory. A refused call leaves it as it was.
 #[derive(Debug, Drop)]
 pub struct LocalPipe {
-    plain: PlainPipe,
+    pub(crate) plain: PlainPipe,
     options: Options,
     granted: usize,
 }
@@ -37,6 +39,24 @@ impl Model for LocalPipe {
     ghost view = { λ p. local_of p.options p.plain p.granted };
 
     ghost invariant = { λ p. IsLocal p.options p.plain p.granted };
+}
+
+// The lend is one span, which is empty where none stands.
+impl Spans for LocalPipe {
+    ghost use Rattle.std.specs.Prelude.{◌∷◌, []};
+    ghost use Rattle.pipe_shared.specs.Local.{lent_span};
+
+    ghost spans = { λ p. lent_span p ∷ [] };
+
+    #[inline]
+    fn count(&self) -> usize {
+        1
+    }
+
+    #[inline]
+    fn span(&self, _index: usize) -> &[u8] {
+        self.plain.lent()
+    }
 }
 
 impl LocalPipe {
@@ -76,13 +96,6 @@ impl LocalPipe {
         })
     }
 
-    /// A segment has at least one byte, so no room for one byte is TooLarge. This does nothing: what it ensures is the law.
-    pub fn has_segments(&self)
-        ensures { 1 ≤ self.now.options.segment }
-    {
-        let _ = &self.options;
-    }
-
     /// Grants a free part of at least `hint` bytes, and tells its length, as `Pipe::try_room` does.
     pub fn room(&mut self, hint: usize) -> Result<usize, LocalRoomFault>
         requires { IsNone self.old.pipe.control.ended }
@@ -110,18 +123,16 @@ impl LocalPipe {
         ensures refused { IfErr result (λ fault. LocalRefuses hint fault self.old) }
         ensures unchanged { OnErr result (self.new ≡ self.old) }
     {
-        let left = self.plain.room();
-        if hint > left {
-            let held = self.plain.held_len();
-            let capacity = self.plain.capacity();
-            return Err(LocalRoomFault::Full {
-                held,
-                draft: capacity - held - left,
-                capacity,
-            });
+        let held = self.plain.held_len();
+        let capacity = self.plain.capacity();
+        let draft = capacity - held - self.plain.room();
+        match self.options.grant(capacity, held, draft, hint) {
+            Err(full) => Err(LocalRoomFault::Full(full)),
+            Ok(granted) => {
+                self.granted = granted;
+                Ok(granted)
+            }
         }
-        self.granted = left.min(self.options.segment);
-        Ok(self.granted)
     }
 
     /// The free part that was granted, as `PipeWriter.GetMemory` gives it: empty where there is none, as after the writer
@@ -151,16 +162,10 @@ impl LocalPipe {
             (IsNone self.old.pipe.control.gone × 2 ^ 62 < self.old.pipe.control.committed + length self.old.pipe.bytes.draft) }
         ensures told_total { IfErr result (λ refused. refused.total ≡ self.old.pipe.control.committed) }
         ensures unchanged { OnErr result (self.new ≡ self.old) }
-        ensures answers { IfOk result (λ answer.
-            LocalAnswers self.old (Commit (runs_of self.old.pipe.bytes.draft)) (Flushed answer.0 answer.1) self.new) }
+        ensures answers { IfOk result (λ answer. (runs : List Run) → bytes_of runs ≡ self.old.pipe.bytes.draft →
+            LocalAnswers self.old (Commit runs ∷ []) (Flushed answer.0 answer.1) self.new) }
         ensures draft { OnOk result (self.new.pipe.bytes.draft ≡ []) }
         ensures free { length self.new.pipe.bytes.free ≡ length self.old.pipe.bytes.free }
-        ensures committed { self.new.pipe.control.committed ≤ self.old.pipe.control.committed + length self.old.pipe.bytes.draft }
-
-        // Whether an end has completed, and what is lent, stays with either outcome.
-        ensures ended { self.new.pipe.control.ended ≡ self.old.pipe.control.ended }
-        ensures gone { self.new.pipe.control.gone ≡ self.old.pipe.control.gone }
-        ensures lent { self.new.pipe.control.lent ≡ self.old.pipe.control.lent }
     {
         self.plain.flush()
     }
@@ -169,30 +174,29 @@ impl LocalPipe {
     pub fn read(&mut self) -> (ReadReply, Wake)
         requires attended { IsNone self.old.pipe.control.gone }
         requires no_lend { IsNone self.old.pipe.control.lent }
-        ensures answers { LocalAnswers self.old Read (Gave result.0 result.1) self.new }
+        ensures answers { LocalAnswers self.old (Read ∷ []) (Gave result.0 result.1) self.new }
         ensures bytes { self.new.pipe.bytes ≡ self.old.pipe.bytes }
-        ensures committed { self.new.pipe.control.committed ≡ self.old.pipe.control.committed }
     {
         self.plain.read()
     }
 
     /// The bytes that the last read lent, in place: `ReadResult.Buffer`. What was committed since is not among them.
-    pub fn lent(&self) -> &[u8]
+    pub fn lent(&self) -> Sequence<'_, LocalPipe>
         requires { IsSome self.now.pipe.control.lent }
-        ensures bytes { (h : List Call) → HoldsFor self.now.pipe h → lend h ≡ Some result.now }
-        ensures len { self.now.pipe.control.lent ≡ Some (length result.now) }
+        ensures bytes { (h : List Call) → HoldsFor self.now.pipe h → lend h ≡ Some (bytes result) }
+        ensures len { self.now.pipe.control.lent ≡ Some (length (bytes result)) }
     {
-        self.plain.lent()
+        let _ = &self.plain;
+        Sequence::whole(self)
     }
 
     /// Gives up the first `c` of the lent bytes, tells that the first `e` of them were examined, and ends the lend, as
     /// `PipeReader.AdvanceTo(consumed, examined)` does. The draft stays, and the free part as long as it is.
     pub fn advance(&mut self, c: u64, e: u64) -> Wake
         requires { MayAdvance self.old.pipe.control.lent c e }
-        ensures answers { LocalAnswers self.old (Advance c e) (Woke result) self.new }
+        ensures answers { LocalAnswers self.old (Advance c e ∷ []) (Woke result) self.new }
         ensures draft { self.new.pipe.bytes.draft ≡ self.old.pipe.bytes.draft }
         ensures free { length self.new.pipe.bytes.free ≡ length self.old.pipe.bytes.free }
-        ensures committed { self.new.pipe.control.committed ≡ self.old.pipe.control.committed }
     {
         self.plain.advance(c, e)
     }
@@ -205,12 +209,10 @@ impl LocalPipe {
             (IsNone self.old.pipe.control.gone × 2 ^ 62 < self.old.pipe.control.committed + length self.old.pipe.bytes.draft) }
         ensures told_total { IfErr result (λ refused. refused.total ≡ self.old.pipe.control.committed) }
         ensures unchanged { OnErr result (self.new ≡ self.old) }
-        ensures answers { IfOk result (λ wake. LocalCompletes self.old self.old.pipe.bytes.draft code wake self.new) }
+        ensures answers { IfOk result (λ wake. (runs : List Run) → AreRunsOf runs self.old.pipe.bytes.draft →
+            LocalAnswers self.old (closing runs code) (Woke wake) self.new) }
         ensures draft { OnOk result (self.new.pipe.bytes.draft ≡ []) }
         ensures free { OnOk result (self.new.pipe.bytes.free ≡ []) }
-        ensures committed { self.new.pipe.control.committed ≤ self.old.pipe.control.committed + length self.old.pipe.bytes.draft }
-        ensures gone { self.new.pipe.control.gone ≡ self.old.pipe.control.gone }
-        ensures lent { self.new.pipe.control.lent ≡ self.old.pipe.control.lent }
     {
         let wake = self.plain.end_writer(code)?;
         self.granted = 0;
@@ -221,10 +223,9 @@ impl LocalPipe {
     /// is given up. The draft stays, and the free part as long as it is.
     pub fn end_reader(&mut self, code: u32) -> Wake
         requires { IsNone self.old.pipe.control.gone }
-        ensures answers { LocalAnswers self.old (EndReader code) (Woke result) self.new }
+        ensures answers { LocalAnswers self.old (EndReader code ∷ []) (Woke result) self.new }
         ensures draft { self.new.pipe.bytes.draft ≡ self.old.pipe.bytes.draft }
         ensures free { length self.new.pipe.bytes.free ≡ length self.old.pipe.bytes.free }
-        ensures committed { self.new.pipe.control.committed ≡ self.old.pipe.control.committed }
     {
         self.plain.end_reader(code)
     }

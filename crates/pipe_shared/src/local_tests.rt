@@ -1,9 +1,9 @@
 //! Known runs of a pipe for one thread.
 
-ghost use Rattle.std.specs.Prelude.{◌≡◌, None, IsNone};
+ghost use Rattle.std.specs.Prelude.{◌≡◌, None, IsNone, IsSome, OnOk};
 
-use crate::tests::{FLUSHED, NOBODY, SMALL, THE_READER, reply};
-use crate::{Closed, LocalPipe, LocalRoomFault, MakeError};
+use crate::tests::{FLUSHED, NOBODY, SMALL, THE_READER, is_just, reply};
+use crate::{Closed, Full, LocalPipe, LocalRoomFault, MakeError};
 use pipe_core::{FlushReply, ReadReply, TooMuch, Wake};
 use std::process::Abort;
 
@@ -20,6 +20,32 @@ fn draft_local(pipe: &mut LocalPipe, bytes: &[u8]) -> bool
     true
 }
 
+// Commits the draft. Whether an end has completed and what is lent stay, also where there would be too many bytes.
+fn flush(pipe: &mut LocalPipe) -> Result<(FlushReply, Wake), TooMuch>
+    requires { IsNone pipe.old.pipe.control.ended }
+    ensures ended { pipe.new.pipe.control.ended ≡ pipe.old.pipe.control.ended }
+    ensures gone { pipe.new.pipe.control.gone ≡ pipe.old.pipe.control.gone }
+    ensures lent { pipe.new.pipe.control.lent ≡ pipe.old.pipe.control.lent }
+{
+    match pipe.flush() {
+        Ok(answer) => Ok(answer),
+        Err(refused) => Err(refused),
+    }
+}
+
+// Completes the writer. What the reader has done stays.
+fn complete(pipe: &mut LocalPipe, code: u32) -> Result<Wake, TooMuch>
+    requires { IsNone pipe.old.pipe.control.ended }
+    ensures ended { OnOk result (IsSome pipe.new.pipe.control.ended) }
+    ensures gone { pipe.new.pipe.control.gone ≡ pipe.old.pipe.control.gone }
+    ensures lent { pipe.new.pipe.control.lent ≡ pipe.old.pipe.control.lent }
+{
+    match pipe.end_writer(code) {
+        Ok(wake) => Ok(wake),
+        Err(refused) => Err(refused),
+    }
+}
+
 // Reads, and where these bytes are lent gives up the first `c` of them, of which `e` were examined.
 fn use_up(pipe: &mut LocalPipe, bytes: &[u8], c: u64, e: u64) -> Option<(ReadReply, Wake)>
     requires attended { IsNone pipe.old.pipe.control.gone }
@@ -32,7 +58,7 @@ fn use_up(pipe: &mut LocalPipe, bytes: &[u8], c: u64, e: u64) -> Option<(ReadRep
     let ReadReply::Ready { len, .. } = reply else {
         return None;
     };
-    let is_lent = pipe.lent() == bytes;
+    let is_lent = is_just(&pipe.lent(), bytes);
     let examined = e.min(len);
     let wake = pipe.advance(c.min(examined), examined);
     is_lent.then_some((reply, wake))
@@ -52,7 +78,7 @@ fn begin_run(rt: &impl Abort, pipe: &mut LocalPipe)
     let (ReadReply::Pending { examined: 0 }, NOBODY) = pipe.read() else {
         panic!(rt; "something is lent");
     };
-    assert!(rt; pipe.flush() == Ok((FLUSHED, THE_READER)));
+    assert!(rt; flush(pipe) == Ok((FLUSHED, THE_READER)));
 }
 
 // Reads, and where these bytes are lent commits two more before it gives up the first and has examined all.
@@ -71,8 +97,8 @@ fn write_while_lent(
     let ReadReply::Ready { len, .. } = reply else {
         return None;
     };
-    let is_lent = pipe.lent() == lent && draft_local(pipe, b"de");
-    let flushed = pipe.flush();
+    let is_lent = is_just(&pipe.lent(), lent) && draft_local(pipe, b"de");
+    let flushed = flush(pipe);
     let wake = pipe.advance(len.min(1), len);
     is_lent.then_some((reply, flushed, wake))
 }
@@ -91,7 +117,7 @@ fn pause_run(rt: &impl Abort, pipe: &mut LocalPipe)
     };
     assert!(rt; draft_local(pipe, b"12345678"));
     let held = FlushReply::Pending { unexamined: 8 };
-    assert!(rt; pipe.flush() == Ok((held, THE_READER)));
+    assert!(rt; flush(pipe) == Ok((held, THE_READER)));
 }
 
 #[test]
@@ -102,7 +128,7 @@ fn a_plain_run_of_a_pipe_for_one_thread(rt: HostRuntime) -> Result<(), MakeError
     assert!(rt; flushed == Ok((FLUSHED, NOBODY)) && woken == NOBODY);
     assert!(rt; use_up(&mut pipe, b"bcde", 4, 4) == Some((reply(None, 4), NOBODY)));
     pause_run(&rt, &mut pipe);
-    let Ok(NOBODY) = pipe.end_writer(0) else {
+    let Ok(NOBODY) = complete(&mut pipe, 0) else {
         return Err(MakeError::OutOfMemory);
     };
     assert!(rt; use_up(&mut pipe, b"12345678", 8, 8) == Some((reply(Some(0), 8), NOBODY)));
@@ -131,14 +157,14 @@ fn room_for_one_thread_is_granted_up_to_the_capacity(rt: HostRuntime) -> Result<
     assert!(rt; pipe.room(1) == Ok(64));
     assert!(rt; draft_local(&mut pipe, &[7; 60]));
     assert!(rt; pipe.room(4) == Ok(4));
-    assert!(rt; pipe.flush().is_ok());
+    assert!(rt; flush(&mut pipe).is_ok());
     assert!(rt; pipe.room(5) == Ok(64));
     assert!(rt; draft_local(&mut pipe, &[9; 64]));
-    let full = LocalRoomFault::Full {
+    let full = LocalRoomFault::Full(Full {
         held: 60,
         draft: 64,
         capacity: 128,
-    };
+    });
     assert!(rt; pipe.room(5) == Err(full));
     assert!(rt; pipe.room(4) == Ok(4));
     Ok(())

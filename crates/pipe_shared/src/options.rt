@@ -1,7 +1,9 @@
 //! What a pipe is made with.
 
-ghost use Rattle.std.specs.Prelude.{◌≡◌, Some, MatchOption};
-ghost use Rattle.pipe_shared.specs.Options.{first_bad};
+ghost use Rattle.std.specs.Prelude.{◌≡◌, ◌≤◌, ◌+◌, Some, MatchOption, IfOk, IfErr};
+ghost use Rattle.pipe_shared.specs.Options.{first_bad, room_of, HasRoomFor, LacksRoom};
+
+use crate::faults::Full;
 
 /// How a pipe is made: .NET's `PipeOptions`. What the thresholds count are committed bytes that the reader hasn't
 /// examined.
@@ -38,6 +40,31 @@ pub enum MakeError {
 }
 
 impl Options {
+    // What is granted for a hint behind so many bytes that are held and drafted, in a pipe that has room for `capacity`: a
+    // segment, or what is left where that is less.
+    pub(crate) fn grant(
+        &self,
+        capacity: usize,
+        held: usize,
+        draft: usize,
+        hint: usize,
+    ) -> Result<usize, Full>
+        requires capacity { capacity ≡ room_of self.now }
+        requires within { held + draft ≤ capacity }
+        ensures granted { IfOk result (λ n. HasRoomFor self.now held draft hint n) }
+        ensures refused { IfErr result (λ full. LacksRoom self.now held draft hint full) }
+    {
+        let left = capacity - held - draft;
+        if hint > left {
+            return Err(Full {
+                held,
+                draft,
+                capacity,
+            });
+        }
+        Ok(left.min(self.segment))
+    }
+
     // The first field that is out of its range, and its number.
     pub(crate) fn first_bad(&self) -> Option<(Field, u64)>
         ensures { result ≡ first_bad self.now }

@@ -7,7 +7,7 @@ ghost use Rattle.pipe_shared.specs.Made.{RefusesOptions, ClosesPipe};
 
 use crate::ends::{Canceller, ReaderDone, ReaderEnd, WriterDone, WriterEnd};
 use crate::options::{MakeError, Options};
-use crate::room::{DraftRoom, LendRoom};
+use crate::parts::{Reading, Writing};
 use crate::state::PipeState;
 use crossbeam_utils::sync::{Parker, Unparker};
 use pipe_core::Wake;
@@ -28,17 +28,17 @@ pub struct Pipe {
     to_writer: Unparker,
 }
 
-// Clauses see which pipe it is, and its options as the name of its states.
+// Clauses see which pipe it is, and what it was made with as the name of its states.
 impl Model for Pipe {
     ghost use Rattle.std.specs.Prelude.{◌≡◌, ◌≤◌};
     ghost use Rattle.turn_cell.specs.Seat.{CellState};
-    ghost use Rattle.pipe_shared.specs.declared.options.Options.{Options};
+    ghost use Rattle.pipe_shared.specs.Name.{Name};
 
-    ghost Value = { CellState Options };
+    ghost Value = { CellState Name };
 
     ghost view = { λ p. p.cell };
 
-    ghost invariant = { λ p. (p.cell.seats ≡ 3) × (p.cell.name ≡ p.options) × (1 ≤ p.options.segment) };
+    ghost invariant = { λ p. (p.cell.seats ≡ 3) × (p.cell.name.options ≡ p.options) × (1 ≤ p.options.segment) };
 }
 
 /// What a pipe has carried.
@@ -60,7 +60,7 @@ impl Pipe {
         requires { options.segments * options.segment ≤ 2 ^ 31 }
         ensures good { IfOk result (λ made. first_bad options ≡ None) }
         ensures refused { IfErr result (λ error. RefusesOptions options error) }
-        ensures pipe { IfOk result (λ made. made.0.name ≡ options) }
+        ensures pipe { IfOk result (λ made. made.0.name.options ≡ options) }
         ensures seats { IfOk result (λ made. made.0.seats ≡ 3) }
         ensures writer { IfOk result (λ made. made.1 ≡ record { seat = new_seat made.0 0; draft = []; free = [] }) }
         ensures reader { IfOk result (λ made. made.2 ≡ record { seat = new_seat made.0 1; lent = None }) }
@@ -79,15 +79,15 @@ impl Pipe {
     fn build(alloc: Global, options: Options) -> Result<Made, AllocError>
         requires size { options.segments * options.segment ≤ 2 ^ 31 }
         requires good { first_bad options ≡ None }
-        ensures pipe { IfOk result (λ made. made.0.name ≡ options) }
+        ensures pipe { IfOk result (λ made. made.0.name.options ≡ options) }
         ensures seats { IfOk result (λ made. made.0.seats ≡ 3) }
         ensures writer { IfOk result (λ made. made.1 ≡ record { seat = new_seat made.0 0; draft = []; free = [] }) }
         ensures reader { IfOk result (λ made. made.2 ≡ record { seat = new_seat made.0 1; lent = None }) }
         ensures canceller { IfOk result (λ made. made.3 ≡ new_seat made.0 2) }
     {
         let size = options.segments * options.segment;
-        let draft = DraftRoom::make(alloc, size)?;
-        let lend = LendRoom::make(alloc, size)?;
+        let drafts = Writing::make(alloc, size)?;
+        let lends = Reading::make(alloc, size)?;
         let state = PipeState::make(alloc, options, size)?;
         let (cell, seats) = match TurnCell::make(alloc, state, 3) {
             Ok(made) => made,
@@ -104,12 +104,12 @@ impl Pipe {
         };
         let writer = WriterEnd {
             seat: first,
-            draft,
+            part: drafts,
             parker: writing,
         };
         let reader = ReaderEnd {
             seat: second,
-            lend,
+            part: lends,
             parker: reading,
         };
         let canceller = Canceller { seat: third };

@@ -1,6 +1,6 @@
 //! The reader's calls on a pipe.
 
-ghost use Rattle.std.specs.Prelude.{◌≡◌, ◌≤◌, length, None, IsNone, IsSomeAnd, IfOk, IfErr, option_map};
+ghost use Rattle.std.specs.Prelude.{◌≡◌, ◌≤◌, [], ◌∷◌, length, None, IsNone, IsSomeAnd, IfOk, IfErr, option_map};
 ghost use Rattle.turn_cell.specs.Seat.{IsOf, IsIdle};
 ghost use Rattle.pipe_core.specs.History.{Read, Advance, EndReader};
 ghost use Rattle.pipe_core.specs.Lends.{lend};
@@ -23,13 +23,13 @@ impl Pipe {
         requires pipe { IsOf self.now r.old.seat }
         requires no_lend { IsNone r.old.lent }
         ensures pipe { IsIdle self.now r.new.seat }
-        ensures made { IfOk result (λ answer. Makes self.now.name r.old.seat Read (Gave answer.0 answer.1) r.new.seat) }
+        ensures made { IfOk result (λ answer. Makes self.now.name.options r.old.seat (Read ∷ []) (Gave answer.0 answer.1) r.new.seat) }
         ensures lent { IfOk result (λ _. r.new.lent ≡ lend (calls_of r.new.seat.seen)) }
         ensures lends { IfOk result (λ answer. option_map length r.new.lent ≡ len_of answer.0) }
         ensures refused { IfErr result (λ fault. Refuses fault r.old.seat r.new.seat) }
         ensures kept { IfErr result (λ _. r.new.lent ≡ r.old.lent) }
     {
-        let answer = turns::read(&self.cell, &mut r.seat, &mut r.lend)?;
+        let answer = turns::read(&self.cell, &mut r.seat, &mut r.part)?;
         self.unpark(answer.1);
         Ok(answer)
     }
@@ -40,13 +40,13 @@ impl Pipe {
         requires pipe { IsOf self.now r.old.seat }
         requires lent { IsSomeAnd r.old.lent (λ bytes. (c ≤ e) × (e ≤ length bytes)) }
         ensures pipe { IsIdle self.now r.new.seat }
-        ensures made { IfOk result (λ wake. Makes self.now.name r.old.seat (Advance c e) (Woke wake) r.new.seat) }
+        ensures made { IfOk result (λ wake. Makes self.now.name.options r.old.seat (Advance c e ∷ []) (Woke wake) r.new.seat) }
         ensures lent { IfOk result (λ _. r.new.lent ≡ None) }
         ensures refused { IfErr result (λ fault. Refuses fault r.old.seat r.new.seat) }
         ensures kept { IfErr result (λ _. r.new.lent ≡ r.old.lent) }
     {
         let wake = turns::advance::<Brand>(&self.cell, &mut r.seat, c, e)?;
-        r.lend.end();
+        r.part.end();
         self.unpark_for_room(wake);
         Ok(wake)
     }
@@ -59,14 +59,14 @@ impl Pipe {
     ) -> Result<(ReaderDone, Wake), ReaderRefused>
         requires { IsOf self.now r.seat }
         ensures pipe { IfOk result (λ done. IsIdle self.now done.0) }
-        ensures made { IfOk result (λ done. Makes self.now.name r.seat (EndReader code) (Woke done.1) done.0) }
+        ensures made { IfOk result (λ done. Makes self.now.name.options r.seat (EndReader code ∷ []) (Woke done.1) done.0) }
         ensures back { IfErr result (λ back. IsIdle self.now back.end.seat) }
         ensures refused { IfErr result (λ back. Refuses back.fault r.seat back.end.seat) }
         ensures kept { IfErr result (λ back. back.end.lent ≡ r.lent) }
     {
         let ReaderEnd {
             mut seat,
-            lend,
+            part,
             parker,
         } = r;
         match turns::end_reader::<Brand>(&self.cell, &mut seat, code) {
@@ -75,7 +75,7 @@ impl Pipe {
                 Ok((ReaderDone { seat }, wake))
             }
             Err(fault) => Err(ReaderRefused {
-                end: ReaderEnd { seat, lend, parker },
+                end: ReaderEnd { seat, part, parker },
                 fault,
             }),
         }

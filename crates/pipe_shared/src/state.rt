@@ -1,18 +1,17 @@
 //! What the two ends of a pipe share.
 
 ghost use Rattle.std.specs.Prelude.{◌≡◌, ◌+◌, ◌*◌, ◌^◌, ◌<◌, ◌≤◌, ◌↔◌, ℕ, List, [], ◌∷◌, length, None, IsNone, IsErr, IfErr, IfOk, OnErr};
-ghost use Rattle.pipe_core.specs.History.{Call, Commit, Read, Advance, EndReader, CancelRead, CancelFlush};
+ghost use Rattle.pipe_core.specs.History.{Run, Call, Commit, Read, Advance, EndReader, CancelRead, CancelFlush, bytes_of, closing, AreRunsOf};
 ghost use Rattle.pipe_core.specs.Lends.{lend};
 ghost use Rattle.pipe_core.specs.Answers.{Flushed, Gave, Woke};
 ghost use Rattle.pipe_core.specs.Standing.{AreThresholds, MayAdvance};
-ghost use Rattle.pipe_core.specs.Pipe.{HoldsFor, runs_of};
+ghost use Rattle.pipe_core.specs.Pipe.{HoldsFor};
 ghost use Rattle.pipe_shared.specs.Options.{room_of};
-ghost use Rattle.pipe_shared.specs.Log.{calls_of};
-ghost use Rattle.pipe_shared.specs.State.{Keeps, Steps, Completes, len_of};
+ghost use Rattle.pipe_shared.specs.State.{Keeps, StateHolds, StateAnswers, len_of};
 
-use crate::entry::Entry;
+use crate::entry::{Entry, PipeName};
 use crate::options::Options;
-use crate::room::LendRoom;
+use crate::parts::Reading;
 use pipe_core::{FlushReply, PlainPipe, ReadReply, TooMuch, Wake};
 use std::alloc::{AllocError, Global};
 use turn_cell::Stands;
@@ -27,13 +26,13 @@ pub struct PipeState {
 impl Stands for PipeState {
     type Entry = Entry;
 
-    type Name = Options;
+    type Name = PipeName;
 
     ghost use Rattle.pipe_shared.specs.State.{Keeps};
 
     ghost stands = { Keeps };
 
-    ghost name = { λ state. state.options };
+    ghost name = { λ state. record { options = state.options } };
 }
 
 impl PipeState {
@@ -57,8 +56,8 @@ impl PipeState {
             (IsNone self.old.plain.control.gone × 2 ^ 62 < self.old.plain.control.committed + length bytes.now) }
         ensures told_total { IfErr result (λ refused. refused.total ≡ self.old.plain.control.committed) }
         ensures unchanged { OnErr result (self.new ≡ self.old) }
-        ensures answers { IfOk result (λ answer.
-            Steps self.old (Commit (runs_of bytes.now)) (Flushed answer.0 answer.1) self.new) }
+        ensures answers { IfOk result (λ answer. (runs : List Run) → bytes_of runs ≡ bytes.now →
+            StateAnswers self.old (Commit runs ∷ []) (Flushed answer.0 answer.1) self.new) }
     {
         self.plain.write(bytes)
     }
@@ -72,20 +71,20 @@ impl PipeState {
             (IsNone self.old.plain.control.gone × 2 ^ 62 < self.old.plain.control.committed + length bytes.now) }
         ensures told_total { IfErr result (λ refused. refused.total ≡ self.old.plain.control.committed) }
         ensures unchanged { OnErr result (self.new ≡ self.old) }
-        ensures answers { IfOk result (λ wake. Completes self.old bytes.now code wake self.new) }
+        ensures answers { IfOk result (λ wake. (runs : List Run) → AreRunsOf runs bytes.now → StateAnswers self.old (closing runs code) (Woke wake) self.new) }
     {
         self.plain.write_last(bytes, code)
     }
 
     // Reads, and where that is ready copies what is lent.
-    pub fn read(&mut self, copy: &mut LendRoom) -> (ReadReply, Wake)
+    pub fn read(&mut self, copy: &mut Reading) -> (ReadReply, Wake)
         requires attended { IsNone self.old.plain.control.gone }
         requires no_lend { IsNone self.old.plain.control.lent }
         requires settled { self.old.plain.bytes.draft ≡ [] }
         requires none { copy.old.bytes ≡ None }
         requires room { length self.old.plain.bytes.held ≤ copy.old.size }
-        ensures answers { Steps self.old Read (Gave result.0 result.1) self.new }
-        ensures lent { (history : List (ℕ × Call)) → Keeps self.old history → copy.new.bytes ≡ lend (Read ∷ calls_of history) }
+        ensures answers { StateAnswers self.old (Read ∷ []) (Gave result.0 result.1) self.new }
+        ensures lent { (h : List Call) → StateHolds self.old h → copy.new.bytes ≡ lend (Read ∷ h) }
         ensures size { copy.new.size ≡ copy.old.size }
     {
         let (reply, wake) = self.plain.read();
@@ -97,7 +96,7 @@ impl PipeState {
     pub fn advance(&mut self, c: u64, e: u64) -> Wake
         requires lent { MayAdvance self.old.plain.control.lent c e }
         requires settled { self.old.plain.bytes.draft ≡ [] }
-        ensures { Steps self.old (Advance c e) (Woke result) self.new }
+        ensures { StateAnswers self.old (Advance c e ∷ []) (Woke result) self.new }
     {
         self.plain.advance(c, e)
     }
@@ -106,7 +105,7 @@ impl PipeState {
     pub fn end_reader(&mut self, code: u32) -> Wake
         requires attended { IsNone self.old.plain.control.gone }
         requires settled { self.old.plain.bytes.draft ≡ [] }
-        ensures { Steps self.old (EndReader code) (Woke result) self.new }
+        ensures { StateAnswers self.old (EndReader code ∷ []) (Woke result) self.new }
     {
         self.plain.end_reader(code)
     }
@@ -114,7 +113,7 @@ impl PipeState {
     // Cancels the pending read, or the next one.
     pub fn cancel_read(&mut self) -> Wake
         requires { self.old.plain.bytes.draft ≡ [] }
-        ensures { Steps self.old CancelRead (Woke result) self.new }
+        ensures { StateAnswers self.old (CancelRead ∷ []) (Woke result) self.new }
     {
         self.plain.cancel_read()
     }
@@ -122,14 +121,14 @@ impl PipeState {
     // Cancels the pending flush, or the next one.
     pub fn cancel_flush(&mut self) -> Wake
         requires { self.old.plain.bytes.draft ≡ [] }
-        ensures { Steps self.old CancelFlush (Woke result) self.new }
+        ensures { StateAnswers self.old (CancelFlush ∷ []) (Woke result) self.new }
     {
         self.plain.cancel_flush()
     }
 }
 
 // Copies what a read of this reply has lent.
-fn copy_lent(plain: &PlainPipe, reply: ReadReply, copy: &mut LendRoom)
+fn copy_lent(plain: &PlainPipe, reply: ReadReply, copy: &mut Reading)
     requires reply { plain.now.control.lent ≡ len_of reply }
     requires none { copy.old.bytes ≡ None }
     requires room { length plain.now.bytes.held ≤ copy.old.size }

@@ -5,10 +5,11 @@ ghost use Rattle.std.specs.Thread.{IsSync};
 ghost use Rattle.turn_cell.specs.Seat.{IsOf};
 
 use crate::{
-    Canceller, Closed, Field, FlushFault, Made, MakeError, Options, Pipe, ReaderDone, ReaderEnd,
-    ReaderRefused, RoomFault, TryFault, WriterDone, WriterEnd, WriterRefused,
+    Canceller, Closed, Field, FlushFault, Full, Made, MakeError, Options, Pipe, ReaderDone,
+    ReaderEnd, ReaderRefused, RoomFault, TryFault, WriterDone, WriterEnd, WriterRefused,
 };
 use pipe_core::{FlushReply, ReadReply, Wake};
+use span_seq::{Sequence, Spans};
 use std::sync::Wait;
 use std::test::Fail;
 use std::thread::{Threads, join, yield_now};
@@ -109,12 +110,21 @@ fn read(pipe: &Pipe, r: &mut ReaderEnd) -> Option<Gave>
     Some(pipe.try_read(r))
 }
 
+// Whether a lend is just these bytes.
+pub fn is_just<C: Spans>(lent: &Sequence<'_, C>, bytes: &[u8]) -> bool {
+    lent.len() == bytes.len() as u64 && lent.starts_with(bytes)
+}
+
 // Advances, where so many bytes are lent and are these.
 fn advance(pipe: &Pipe, r: &mut ReaderEnd, lent: &[u8], c: u64, e: u64) -> Option<Woke>
     requires { IsOf pipe.now r.old.seat }
     ensures { IsOf pipe.now r.new.seat }
 {
-    if !r.lending() || r.lent() != lent || c > e || e > lent.len() as u64 {
+    if !r.lending() {
+        return None;
+    }
+    let seq = r.lent();
+    if !is_just(&seq, lent) || c > e || e > seq.len() {
         return None;
     }
     Some(pipe.try_advance(r, c, e))
@@ -194,7 +204,11 @@ fn advance_waiting<R: Wait>(
     requires { IsOf pipe.now r.old.seat }
     ensures { IsOf pipe.now r.new.seat }
 {
-    if !r.lending() || r.lent() != lent || c > e || e > lent.len() as u64 {
+    if !r.lending() {
+        return false;
+    }
+    let seq = r.lent();
+    if !is_just(&seq, lent) || c > e || e > seq.len() {
         return false;
     }
     pipe.advance(rt, r, c, e);
@@ -263,11 +277,11 @@ fn room_is_granted_up_to_the_capacity(rt: HostRuntime) -> Result<(), Fail> {
     assert!(rt; draft(&mut w, &[8; 4]));
     assert!(rt; pipe.try_room(&mut w, 64) == Ok(64));
     assert!(rt; draft(&mut w, &[9; 60]));
-    let full = RoomFault::Full {
+    let full = RoomFault::Full(Full {
         held: 60,
         draft: 64,
         capacity: 128,
-    };
+    });
     assert!(rt; pipe.try_room(&mut w, 5) == Err(full));
     assert!(rt; read(&pipe, &mut r).is_some());
     assert!(rt; advance(&pipe, &mut r, &[7; 60], 1, 60) == Some(Ok(THE_WRITER)));
@@ -404,7 +418,7 @@ fn consume(pipe: &Pipe, r: &mut ReaderEnd) -> u64
     if !r.lending() {
         return 0;
     }
-    let len = r.lent().len() as u64;
+    let len = r.lent().len();
     match pipe.try_advance(r, len, len) {
         Ok(_) => len,
         Err(_) => 0,
@@ -580,8 +594,8 @@ fn read_once<R: Wait>(rt: &R, pipe: &Pipe, r: &mut ReaderEnd, before: u64) -> Op
     }
     pipe.read(rt, r);
     let lent = r.lent();
-    let len = lent.len() as u64;
-    if !is_in_order(lent, before) {
+    let len = lent.len();
+    if !lent.is_single() || !is_in_order(lent.first(), before) {
         return None;
     }
     pipe.advance(rt, r, len, len);

@@ -3,20 +3,20 @@
 
 ghost use Rattle.std.specs.Prelude.{◌≡◌, ◌+◌, ◌≤◌, ℕ, List, [], ◌∷◌, length, reverse, None, IsSomeAnd, IfErr, IfOk};
 ghost use Rattle.turn_cell.specs.Seat.{IsOf, IsIdle};
-ghost use Rattle.pipe_core.specs.History.{Call, Commit, Read, Advance, EndReader, CancelRead, CancelFlush, writer_end, reader_end};
+ghost use Rattle.pipe_core.specs.History.{Call, Commit, Read, Advance, EndReader, CancelRead, CancelFlush, bytes_of, closing, writer_end, reader_end};
 ghost use Rattle.pipe_core.specs.Lends.{lend};
 ghost use Rattle.pipe_core.specs.Answers.{Flushed, Gave, Woke};
 ghost use Rattle.pipe_core.specs.Standing.{MayAdvance};
-ghost use Rattle.pipe_core.specs.Pipe.{kept, runs_of, closing};
+ghost use Rattle.pipe_core.specs.Pipe.{kept};
 ghost use Rattle.pipe_shared.specs.Options.{room_of};
 ghost use Rattle.pipe_shared.specs.Log.{calls_of};
-ghost use Rattle.pipe_shared.specs.Turns.{FindsHeld, Wins, Refuses, RefusesFlush, Makes, MakesLast};
+ghost use Rattle.pipe_shared.specs.Turns.{FindsHeld, Wins, Refuses, RefusesFlush, Makes};
 ghost use Rattle.pipe_shared.specs.Ends.{IsEnd};
 ghost use Rattle.pipe_shared.specs.Holding.{HasTurn, HasRoom, Attends};
 
 use crate::entry::Entry;
 use crate::faults::{FlushFault, TryFault};
-use crate::room::LendRoom;
+use crate::parts::{Reading, Writing};
 use crate::state::PipeState;
 use pipe_core::{FlushReply, ReadReply, TooMuch, Wake};
 use std::marker::Brand;
@@ -51,18 +51,18 @@ fn take(
 pub fn commit<A: Adds<Entry>>(
     cell: &TurnCell<PipeState>,
     seat: &mut TurnSeat<PipeState>,
-    draft: &[u8],
+    part: &Writing,
 ) -> Result<(FlushReply, Wake), FlushFault>
     requires seat { IsOf cell.now seat.old }
-    requires room { HasRoom cell.now.name seat.old (length draft.now) }
-    requires entry { A.entries ≡ Commit (runs_of draft.now) ∷ [] }
+    requires room { HasRoom cell.now.name.options seat.old (length (bytes_of part.now.draft)) }
+    requires entry { A.entries ≡ Commit part.now.draft ∷ [] }
     ensures seat { IsOf cell.now seat.new }
     ensures made { IfOk result (λ answer.
-        Makes cell.now.name seat.old (Commit (runs_of draft.now)) (Flushed answer.0 answer.1) seat.new) }
-    ensures refused { IfErr result (λ fault. RefusesFlush (length draft.now) fault seat.old seat.new) }
+        Makes cell.now.name.options seat.old (Commit part.now.draft ∷ []) (Flushed answer.0 answer.1) seat.new) }
+    ensures refused { IfErr result (λ fault. RefusesFlush (length (bytes_of part.now.draft)) fault seat.old seat.new) }
 {
     let mut held = take(cell, seat)?;
-    match held.state_mut().commit(draft) {
+    match held.state_mut().commit(part.draft()) {
         Ok(answer) => {
             cell.put::<A>(seat, held, 1);
             Ok(answer)
@@ -78,20 +78,20 @@ pub fn commit<A: Adds<Entry>>(
 pub fn complete<A: Adds<Entry>>(
     cell: &TurnCell<PipeState>,
     seat: &mut TurnSeat<PipeState>,
-    draft: &[u8],
+    part: &Writing,
     code: u32,
 ) -> Result<Wake, FlushFault>
     requires seat { IsOf cell.now seat.old }
-    requires room { HasRoom cell.now.name seat.old (length draft.now) }
-    requires entries { A.entries ≡ reverse (closing draft.now code) }
+    requires room { HasRoom cell.now.name.options seat.old (length (bytes_of part.now.draft)) }
+    requires entries { A.entries ≡ reverse (closing part.now.draft code) }
     ensures seat { IsOf cell.now seat.new }
-    ensures made { IfOk result (λ wake. MakesLast cell.now.name seat.old draft.now code wake seat.new) }
-    ensures refused { IfErr result (λ fault. RefusesFlush (length draft.now) fault seat.old seat.new) }
+    ensures made { IfOk result (λ wake. Makes cell.now.name.options seat.old (closing part.now.draft code) (Woke wake) seat.new) }
+    ensures refused { IfErr result (λ fault. RefusesFlush (length (bytes_of part.now.draft)) fault seat.old seat.new) }
 {
     let mut held = take(cell, seat)?;
-    match held.state_mut().complete(draft, code) {
+    match held.state_mut().complete(part.draft(), code) {
         Ok(wake) => {
-            let added = if draft.is_empty() { 1 } else { 2 };
+            let added = if part.draft_len() == 0 { 1 } else { 2 };
             cell.put::<A>(seat, held, added);
             Ok(wake)
         }
@@ -119,22 +119,22 @@ pub fn look(cell: &TurnCell<PipeState>, seat: &mut TurnSeat<PipeState>) -> Resul
 pub fn read(
     cell: &TurnCell<PipeState>,
     seat: &mut TurnSeat<PipeState>,
-    copy: &mut LendRoom,
+    part: &mut Reading,
 ) -> Result<(ReadReply, Wake), TryFault>
     requires seat { IsOf cell.now seat.old }
     requires attends { Attends seat.old }
     requires no_lend { lend (calls_of seat.old.seen) ≡ None }
-    requires none { copy.old.bytes ≡ None }
-    requires size { copy.old.size ≡ room_of cell.now.name }
+    requires none { part.old.bytes ≡ None }
+    requires size { part.old.size ≡ room_of cell.now.name.options }
     ensures seat { IsOf cell.now seat.new }
-    ensures made { IfOk result (λ answer. Makes cell.now.name seat.old Read (Gave answer.0 answer.1) seat.new) }
-    ensures lent { IfOk result (λ _. lend (calls_of seat.new.seen) ≡ copy.new.bytes) }
+    ensures made { IfOk result (λ answer. Makes cell.now.name.options seat.old (Read ∷ []) (Gave answer.0 answer.1) seat.new) }
+    ensures lent { IfOk result (λ _. lend (calls_of seat.new.seen) ≡ part.new.bytes) }
     ensures refused { IfErr result (λ fault. Refuses fault seat.old seat.new) }
-    ensures unchanged { IfErr result (λ _. copy.new ≡ copy.old) }
-    ensures size { copy.new.size ≡ copy.old.size }
+    ensures unchanged { IfErr result (λ _. part.new ≡ part.old) }
+    ensures size { part.new.size ≡ part.old.size }
 {
     let mut held = take(cell, seat)?;
-    let answer = held.state_mut().read(copy);
+    let answer = held.state_mut().read(part);
     cell.put::<Brand>(seat, held, 1);
     Ok(answer)
 }
@@ -151,7 +151,7 @@ pub fn advance<A: Adds<Entry>>(
     requires lent { IsSomeAnd (lend (calls_of seat.old.seen)) (λ bytes. (c ≤ e) × (e ≤ length bytes)) }
     requires entry { A.entries ≡ Advance c e ∷ [] }
     ensures seat { IsOf cell.now seat.new }
-    ensures made { IfOk result (λ wake. Makes cell.now.name seat.old (Advance c e) (Woke wake) seat.new) }
+    ensures made { IfOk result (λ wake. Makes cell.now.name.options seat.old (Advance c e ∷ []) (Woke wake) seat.new) }
     ensures refused { IfErr result (λ fault. Refuses fault seat.old seat.new) }
 {
     let mut held = take(cell, seat)?;
@@ -170,7 +170,7 @@ pub fn end_reader<A: Adds<Entry>>(
     requires attends { Attends seat.old }
     requires entry { A.entries ≡ EndReader code ∷ [] }
     ensures seat { IsOf cell.now seat.new }
-    ensures made { IfOk result (λ wake. Makes cell.now.name seat.old (EndReader code) (Woke wake) seat.new) }
+    ensures made { IfOk result (λ wake. Makes cell.now.name.options seat.old (EndReader code ∷ []) (Woke wake) seat.new) }
     ensures refused { IfErr result (λ fault. Refuses fault seat.old seat.new) }
 {
     let mut held = take(cell, seat)?;
@@ -187,7 +187,7 @@ pub fn cancel_read(
     requires seat { IsOf cell.now seat.old }
     requires end { IsEnd 2 seat.old }
     ensures seat { IsOf cell.now seat.new }
-    ensures made { IfOk result (λ wake. Makes cell.now.name seat.old CancelRead (Woke wake) seat.new) }
+    ensures made { IfOk result (λ wake. Makes cell.now.name.options seat.old (CancelRead ∷ []) (Woke wake) seat.new) }
     ensures refused { IfErr result (λ fault. Refuses fault seat.old seat.new) }
 {
     let mut held = take(cell, seat)?;
@@ -204,7 +204,7 @@ pub fn cancel_flush(
     requires seat { IsOf cell.now seat.old }
     requires end { IsEnd 2 seat.old }
     ensures seat { IsOf cell.now seat.new }
-    ensures made { IfOk result (λ wake. Makes cell.now.name seat.old CancelFlush (Woke wake) seat.new) }
+    ensures made { IfOk result (λ wake. Makes cell.now.name.options seat.old (CancelFlush ∷ []) (Woke wake) seat.new) }
     ensures refused { IfErr result (λ fault. Refuses fault seat.old seat.new) }
 {
     let mut held = take(cell, seat)?;

@@ -1,17 +1,17 @@
 //! The calls of a pipe that wait. Each makes attempts, one behind the other, until one of them has its answer; an attempt
 //! is the call of the same name that doesn't wait.
 
-ghost use Rattle.std.specs.Prelude.{◌≡◌, ◌+◌, ◌^◌, ◌<◌, ◌≤◌, ◌↔◌, [], length, max, Some, None, Ok, Err, IsNone, IsSomeAnd, IsErr, IfOk, IfErr, OnErr, OnOk};
+ghost use Rattle.std.specs.Prelude.{◌≡◌, ◌+◌, ◌^◌, ◌<◌, ◌≤◌, ◌↔◌, [], ◌∷◌, length, max, Some, None, Ok, Err, IsNone, IsSomeAnd, IsErr, IfOk, IfErr, OnErr, OnOk};
 ghost use Rattle.turn_cell.specs.Seat.{IsOf, IsIdle};
 ghost use Rattle.pipe_core.specs.declared.reply.Wake.{Wake};
-ghost use Rattle.pipe_core.specs.History.{Advance, EndReader};
+ghost use Rattle.pipe_core.specs.History.{Advance, EndReader, bytes_of, closing};
 ghost use Rattle.pipe_core.specs.Progress.{total};
 ghost use Rattle.pipe_shared.specs.declared.faults.RoomFault.TheVariants.{TooLarge};
 ghost use Rattle.pipe_shared.specs.declared.faults.FlushFault.TheVariants.{TooMuch};
 ghost use Rattle.pipe_shared.specs.Log.{calls_of};
 ghost use Rattle.pipe_shared.specs.State.{len_of};
 ghost use Rattle.pipe_shared.specs.Waiting.{AtLast};
-ghost use Rattle.pipe_shared.specs.Attempts.{TriesRoom, TriesFlush, TriesCompletion, TriesRead, TriesToEnd, waits_for_room, waits_to_flush, waits_to_complete, waits_to_read, waits_for_turn, completed, without_lend, FlushesOn, ReadsOn, CallsOnce, CompletesOnce};
+ghost use Rattle.pipe_shared.specs.Attempts.{TriesRoom, TriesCompletion, TriesRead, TriesToEnd, waits_for_room, waits_to_complete, waits_to_read, waits_for_turn, FlushesAtLast, completed, without_lend, FlushesOn, ReadsOn, CallsOnce};
 
 use crate::ends::{ReaderDone, ReaderEnd, ReaderRefused, WriterDone, WriterEnd, WriterRefused};
 use crate::faults::{FlushFault, RoomFault};
@@ -27,10 +27,10 @@ impl Pipe {
     pub fn room<R: Wait>(&self, rt: &R, w: &mut WriterEnd, hint: usize) -> Result<usize, RoomFault>
         requires { IsOf self.now w.old.seat }
         ensures pipe { IsIdle self.now w.new.seat }
-        ensures at_last { AtLast (TriesRoom self.now.name (max hint 1)) waits_for_room w.old result w.new }
+        ensures at_last { AtLast (TriesRoom self.now.name.options (max hint 1)) waits_for_room w.old result w.new }
         ensures granted { IfOk result (λ n. (max hint 1 ≤ n) × (length w.new.free ≡ n)) }
-        ensures too_large { IsErr result ↔ self.now.name.segment < max hint 1 }
-        ensures refused { IfErr result (λ fault. fault ≡ TooLarge (max hint 1) self.now.name.segment) }
+        ensures too_large { IsErr result ↔ self.now.name.options.segment < max hint 1 }
+        ensures refused { IfErr result (λ fault. fault ≡ TooLarge (max hint 1) self.now.name.options.segment) }
         ensures unchanged { OnErr result (w.new ≡ w.old) }
         ensures draft { w.new.draft ≡ w.old.draft }
         ensures own { w.new.seat.own ≡ w.old.seat.own }
@@ -42,7 +42,7 @@ impl Pipe {
                 Err(RoomFault::TooLarge { hint, segment }) => {
                     return Err(RoomFault::TooLarge { hint, segment });
                 }
-                Err(RoomFault::Full { .. }) => w.wait(rt, &mut attempts),
+                Err(RoomFault::Full(_)) => attempts.wait_for_reader(rt, w),
                 Err(RoomFault::Busy { .. }) => attempts.wait_for_turn(),
             }
         }
@@ -59,15 +59,10 @@ impl Pipe {
     ) -> Result<FlushReply, pipe_core::TooMuch>
         requires { IsOf self.now w.old.seat }
         ensures pipe { IsIdle self.now w.new.seat }
-        ensures at_last { IfOk result (λ reply.
-            (wake : Wake) × AtLast (TriesFlush self.now.name) waits_to_flush w.old (Ok (reply, wake)) w.new) }
-        ensures flushes { IfOk result (λ reply. FlushesOn self.now.name w.old.seat w.old.draft reply w.new.seat) }
+        ensures at_last { FlushesAtLast self.now.name.options w.old result w.new }
+        ensures flushes { IfOk result (λ reply. FlushesOn self.now.name.options w.old.seat w.old.draft reply w.new.seat) }
         ensures draft { OnOk result (w.new.draft ≡ []) }
         ensures free { length w.new.free ≡ length w.old.free }
-        ensures refused { IfErr result (λ fault.
-            AtLast (TriesFlush self.now.name) waits_to_flush w.old (Err (TooMuch fault.total)) w.new) }
-        ensures too_much { IfErr result (λ fault.
-            (fault.total ≡ length (total (calls_of w.new.seat.seen))) × (2 ^ 62 < fault.total + length w.old.draft)) }
         ensures kept { OnErr result ((w.new.draft ≡ w.old.draft) × (w.new.free ≡ w.old.free) × (w.new.seat.own ≡ w.old.seat.own)) }
     {
         let mut attempts = Attempts::new();
@@ -76,7 +71,7 @@ impl Pipe {
                 Ok((FlushReply::Ready { canceled, gone }, _)) => {
                     return Ok(FlushReply::Ready { canceled, gone });
                 }
-                Ok((FlushReply::Pending { .. }, _)) => w.wait(rt, &mut attempts),
+                Ok((FlushReply::Pending { .. }, _)) => attempts.wait_for_reader(rt, w),
                 Err(FlushFault::TooMuch { total }) => return Err(pipe_core::TooMuch { total }),
                 Err(FlushFault::Busy { .. }) => attempts.wait_for_turn(),
                 Err(FlushFault::Worn { .. }) => attempts.wait_for_turn(),
@@ -96,14 +91,14 @@ impl Pipe {
         requires { IsOf self.now w.seat }
         ensures pipe { IfOk result (λ done. IsIdle self.now done) }
         ensures at_last { IfOk result (λ done.
-            (wake : Wake) × AtLast (TriesCompletion self.now.name code) waits_to_complete w (Ok wake) (completed done)) }
-        ensures made { IfOk result (λ done. CompletesOnce w.seat w.draft code done) }
+            (wake : Wake) × AtLast (TriesCompletion self.now.name.options code) waits_to_complete w (Ok wake) (completed done)) }
+        ensures made { IfOk result (λ done. CallsOnce w.seat (closing w.draft code) done) }
         ensures back { IfErr result (λ back. IsIdle self.now back.end.seat) }
         ensures refused { IfErr result (λ back.
-            AtLast (TriesCompletion self.now.name code) waits_to_complete w (Err back.fault) back.end) }
+            AtLast (TriesCompletion self.now.name.options code) waits_to_complete w (Err back.fault) back.end) }
         ensures too_much { IfErr result (λ back.
             (back.fault ≡ TooMuch (length (total (calls_of back.end.seat.seen))))
-            × (2 ^ 62 < length (total (calls_of back.end.seat.seen)) + length w.draft)) }
+            × (2 ^ 62 < length (total (calls_of back.end.seat.seen)) + length (bytes_of w.draft))) }
         ensures kept { IfErr result (λ back.
             (back.end.draft ≡ w.draft) × (back.end.free ≡ w.free) × (back.end.seat.own ≡ w.seat.own)) }
     {
@@ -131,7 +126,7 @@ impl Pipe {
         requires pipe { IsOf self.now r.old.seat }
         requires no_lend { IsNone r.old.lent }
         ensures pipe { IsIdle self.now r.new.seat }
-        ensures at_last { (wake : Wake) × AtLast (TriesRead self.now.name) waits_to_read r.old (Ok (result, wake)) r.new }
+        ensures at_last { (wake : Wake) × AtLast (TriesRead self.now.name.options) waits_to_read r.old (Ok (result, wake)) r.new }
         ensures lends { IsSomeAnd r.new.lent (λ bytes. len_of result ≡ Some (length bytes)) }
         ensures reads { ReadsOn r.old.seat result r.new.seat }
     {
@@ -154,7 +149,7 @@ impl Pipe {
                         len,
                     };
                 }
-                Ok((ReadReply::Pending { .. }, _)) => r.wait(rt, &mut attempts),
+                Ok((ReadReply::Pending { .. }, _)) => attempts.wait_for_writer(rt, r),
                 Err(_) => attempts.wait_for_turn(),
             }
         }
@@ -167,9 +162,9 @@ impl Pipe {
         requires pipe { IsOf self.now r.old.seat }
         requires lent { IsSomeAnd r.old.lent (λ bytes. (c ≤ e) × (e ≤ length bytes)) }
         ensures pipe { IsIdle self.now r.new.seat }
-        ensures at_last { (wake : Wake) × AtLast (TriesToEnd self.now.name (Advance c e)) waits_for_turn r.old (Ok wake) r.new }
+        ensures at_last { (wake : Wake) × AtLast (TriesToEnd self.now.name.options (Advance c e)) waits_for_turn r.old (Ok wake) r.new }
         ensures lent { r.new.lent ≡ None }
-        ensures made { CallsOnce r.old.seat (Advance c e) r.new.seat }
+        ensures made { CallsOnce r.old.seat (Advance c e ∷ []) r.new.seat }
     {
         let attempts = Attempts::new();
         for _ in rt.forever() {
@@ -186,8 +181,8 @@ impl Pipe {
     pub fn complete_reader<R: Wait>(&self, rt: &R, r: ReaderEnd, code: u32) -> ReaderDone
         requires { IsOf self.now r.seat }
         ensures pipe { IsIdle self.now result }
-        ensures at_last { (wake : Wake) × AtLast (TriesToEnd self.now.name (EndReader code)) waits_for_turn r (Ok wake) (without_lend result) }
-        ensures made { CallsOnce r.seat (EndReader code) result }
+        ensures at_last { (wake : Wake) × AtLast (TriesToEnd self.now.name.options (EndReader code)) waits_for_turn r (Ok wake) (without_lend result) }
+        ensures made { CallsOnce r.seat (EndReader code ∷ []) result }
     {
         let attempts = Attempts::new();
         let mut end = r;

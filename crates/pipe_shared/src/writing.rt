@@ -1,11 +1,10 @@
 //! The writer's calls on a pipe.
 
-ghost use Rattle.std.specs.Prelude.{◌≡◌, ◌<◌, ◌≤◌, [], length, max, IfOk, IfErr};
+ghost use Rattle.std.specs.Prelude.{◌≡◌, ◌<◌, ◌≤◌, [], ◌∷◌, length, max, IfOk, IfErr};
 ghost use Rattle.turn_cell.specs.Seat.{IsOf, IsIdle};
-ghost use Rattle.pipe_core.specs.History.{Commit};
-ghost use Rattle.pipe_core.specs.Answers.{Flushed};
-ghost use Rattle.pipe_core.specs.Pipe.{runs_of};
-ghost use Rattle.pipe_shared.specs.Turns.{RefusesFlush, Makes, MakesLast};
+ghost use Rattle.pipe_core.specs.History.{Commit, bytes_of, closing};
+ghost use Rattle.pipe_core.specs.Answers.{Flushed, Woke};
+ghost use Rattle.pipe_shared.specs.Turns.{RefusesFlush, Makes};
 ghost use Rattle.pipe_shared.specs.Granting.{RefusesRoom, Grants};
 
 use crate::ends::{WriterDone, WriterEnd, WriterRefused};
@@ -22,11 +21,11 @@ impl Pipe {
     pub fn try_room(&self, w: &mut WriterEnd, hint: usize) -> Result<usize, RoomFault>
         requires { IsOf self.now w.old.seat }
         ensures pipe { IsIdle self.now w.new.seat }
-        ensures granted { IfOk result (λ n. Grants self.now.name (max hint 1) n w.old w.new) }
-        ensures refused { IfErr result (λ fault. RefusesRoom self.now.name (max hint 1) fault w.old w.new) }
+        ensures granted { IfOk result (λ n. Grants self.now.name.options (max hint 1) n w.old w.new) }
+        ensures refused { IfErr result (λ fault. RefusesRoom self.now.name.options (max hint 1) fault w.old w.new) }
     {
         let hint = hint.max(1);
-        let free = w.draft.free_len();
+        let free = w.part.free_len();
         let segment = self.options.segment;
         if hint > segment {
             return Err(RoomFault::TooLarge { hint, segment });
@@ -41,28 +40,23 @@ impl Pipe {
     fn grant(&self, w: &mut WriterEnd, hint: usize) -> Result<usize, RoomFault>
         requires pipe { IsOf self.now w.old.seat }
         requires some { 1 ≤ hint }
-        requires small { hint ≤ self.now.name.segment }
+        requires small { hint ≤ self.now.name.options.segment }
         requires short { length w.old.free < hint }
         ensures pipe { IsIdle self.now w.new.seat }
-        ensures granted { IfOk result (λ n. Grants self.now.name hint n w.old w.new) }
-        ensures refused { IfErr result (λ fault. RefusesRoom self.now.name hint fault w.old w.new) }
+        ensures granted { IfOk result (λ n. Grants self.now.name.options hint n w.old w.new) }
+        ensures refused { IfErr result (λ fault. RefusesRoom self.now.name.options hint fault w.old w.new) }
     {
         let held = match turns::look(&self.cell, &mut w.seat) {
             Ok(held) => held,
             Err(Busy { word }) => return Err(RoomFault::Busy { word }),
         };
-        let draft = w.draft.draft_len();
-        let capacity = w.draft.size();
-        let left = capacity - held - draft;
-        if hint > left {
-            return Err(RoomFault::Full {
-                held,
-                draft,
-                capacity,
-            });
-        }
-        let granted = left.min(self.options.segment);
-        w.draft.grant(granted);
+        let capacity = w.part.size();
+        let draft = w.part.draft_len();
+        let granted = match self.options.grant(capacity, held, draft, hint) {
+            Ok(granted) => granted,
+            Err(full) => return Err(RoomFault::Full(full)),
+        };
+        w.part.grant(granted);
         Ok(granted)
     }
 
@@ -72,14 +66,14 @@ impl Pipe {
         requires { IsOf self.now w.old.seat }
         ensures pipe { IsIdle self.now w.new.seat }
         ensures made { IfOk result (λ answer.
-            Makes self.now.name w.old.seat (Commit (runs_of w.old.draft)) (Flushed answer.0 answer.1) w.new.seat) }
+            Makes self.now.name.options w.old.seat (Commit w.old.draft ∷ []) (Flushed answer.0 answer.1) w.new.seat) }
         ensures draft { IfOk result (λ _. w.new.draft ≡ []) }
         ensures free { IfOk result (λ _. length w.new.free ≡ length w.old.free) }
-        ensures refused { IfErr result (λ fault. RefusesFlush (length w.old.draft) fault w.old.seat w.new.seat) }
+        ensures refused { IfErr result (λ fault. RefusesFlush (length (bytes_of w.old.draft)) fault w.old.seat w.new.seat) }
         ensures kept { IfErr result (λ _. (w.new.draft ≡ w.old.draft) × (w.new.free ≡ w.old.free)) }
     {
-        let answer = turns::commit::<Brand>(&self.cell, &mut w.seat, w.draft.draft())?;
-        w.draft.clear();
+        let answer = turns::commit::<Brand>(&self.cell, &mut w.seat, &w.part)?;
+        w.part.clear();
         self.unpark(answer.1);
         Ok(answer)
     }
@@ -89,27 +83,23 @@ impl Pipe {
     pub fn try_complete(&self, w: WriterEnd, code: u32) -> Result<(WriterDone, Wake), WriterRefused>
         requires { IsOf self.now w.seat }
         ensures pipe { IfOk result (λ done. IsIdle self.now done.0) }
-        ensures made { IfOk result (λ done. MakesLast self.now.name w.seat w.draft code done.1 done.0) }
+        ensures made { IfOk result (λ done. Makes self.now.name.options w.seat (closing w.draft code) (Woke done.1) done.0) }
         ensures back { IfErr result (λ back. IsIdle self.now back.end.seat) }
-        ensures refused { IfErr result (λ back. RefusesFlush (length w.draft) back.fault w.seat back.end.seat) }
+        ensures refused { IfErr result (λ back. RefusesFlush (length (bytes_of w.draft)) back.fault w.seat back.end.seat) }
         ensures kept { IfErr result (λ back. (back.end.draft ≡ w.draft) × (back.end.free ≡ w.free)) }
     {
         let WriterEnd {
             mut seat,
-            draft,
+            part,
             parker,
         } = w;
-        match turns::complete::<Brand>(&self.cell, &mut seat, draft.draft(), code) {
+        match turns::complete::<Brand>(&self.cell, &mut seat, &part, code) {
             Ok(wake) => {
                 self.unpark(wake);
                 Ok((WriterDone { seat }, wake))
             }
             Err(fault) => Err(WriterRefused {
-                end: WriterEnd {
-                    seat,
-                    draft,
-                    parker,
-                },
+                end: WriterEnd { seat, part, parker },
                 fault,
             }),
         }

@@ -18,11 +18,11 @@ use Rattle.frame_model.proofs.EndLemmas.{not_open}
 use Rattle.frame_model.proofs.FrameLemmas.{spelling_len}
 use Rattle.relay_model.specs.Run.{frames_in, payloads_of}
 use Rattle.pipe_core.specs.declared.reply.ReadReply.TheVariants as read
-use Rattle.pipe_core.specs.History.{Call, Run, Commit, EndWriter, Read, Advance, EndReader, CancelRead, CancelFlush, bytes_of, reader_end, writer_end}
+use Rattle.pipe_core.specs.History.{Call, Run, Commit, EndWriter, Read, Advance, EndReader, CancelRead, CancelFlush, bytes_of, reader_end, writer_end, seat_of}
 use Rattle.pipe_core.specs.Progress.{total, consumed, examined, held, canceled_read}
 use Rattle.pipe_core.specs.Reads.{read_is_ready, reply_to_read}
 use Rattle.pipe_core.specs.Lends.{lend}
-use Rattle.pipe_core.specs.Legal.{IsLegal, seat_of}
+use Rattle.pipe_core.specs.Legal.{IsLegal}
 use Rattle.span_seq.proofs.ScanLemmas.{at_none, position_past, stopped}
 use Rattle.std.proofs.lemmas.List.Sums.{prefix_len-le-length}
 use Rattle.pipe_core.proofs.OrderLemmas.{ordered, seen_all, total_commit}

@@ -12,11 +12,11 @@ use Rattle.frame_model.specs.Translation.{translation}
 use Rattle.frame_model.proofs.EndLemmas.{no_end, no_rest}
 use Rattle.pipe_core.specs.declared.reply.ReadReply.{ReadReply}
 use Rattle.pipe_core.specs.declared.reply.ReadReply.TheVariants as read
-use Rattle.pipe_core.specs.History.{Call, Commit, EndWriter, Read, Advance, EndReader, CancelRead, CancelFlush, writer_end}
+use Rattle.pipe_core.specs.History.{Call, Commit, EndWriter, Read, Advance, EndReader, CancelRead, CancelFlush, writer_end, seat_of}
 use Rattle.pipe_core.specs.Progress.{total, consumed, examined, held}
 use Rattle.pipe_core.specs.Reads.{reply_to_read}
 use Rattle.pipe_core.specs.Lends.{lend}
-use Rattle.pipe_core.specs.Legal.{IsLegal, MayFollow, seat_of}
+use Rattle.pipe_core.specs.Legal.{IsLegal, MayFollow}
 use Rattle.pipe_core.proofs.OrderLemmas.{ordered}
 use Rattle.pipe_shared.specs.declared.faults.TryFault.{TryFault}
 use Rattle.relay_engine.specs.Frames.{Drains, Passes, verdict_of}

@@ -7,9 +7,9 @@ use Rattle.frame_model.specs.declared.job.Job.{Job}
 use Rattle.frame_model.specs.Translation.{Translation, translation}
 use Rattle.frame_model.proofs.TranslationLemmas.{bad_stays, grows}
 use Rattle.relay_model.specs.Run.{frames_in}
-use Rattle.pipe_core.specs.History.{Call, Commit, EndWriter, Read, Advance, EndReader, CancelRead, CancelFlush, writer_end}
+use Rattle.pipe_core.specs.History.{Call, Commit, EndWriter, Read, Advance, EndReader, CancelRead, CancelFlush, writer_end, seat_of}
 use Rattle.pipe_core.specs.Progress.{total}
-use Rattle.pipe_core.specs.Legal.{IsLegal, MayFollow, seat_of}
+use Rattle.pipe_core.specs.Legal.{IsLegal, MayFollow}
 use Rattle.pipe_core.proofs.OrderLemmas.{total_commit}
 use Rattle.pipe_shared.specs.declared.faults.TryFault.{TryFault}
 use Rattle.relay_engine.specs.Later.{CallsLater, HearsLater, Later}

@@ -2,16 +2,17 @@
 use Rattle.std.proofs.Common.{◌≡◌, ◌==◌, ℕ, Bool, true, false, cond, List, [], ◌∷◌, ◌++◌, reverse, map, filter, flat_map, refl, sym, ap, ◌∙◌, subst, append_assoc, append-nil}
 use Rattle.std.specs.Prelude.{IsNone}
 use Rattle.std.specs.List.{All}
-use Rattle.std.proofs.lemmas.List.{reverse-append, reverse-reverse}
-use Rattle.std.proofs.lemmas.List.Elements.{All-head, All-tail}
+use Rattle.std.proofs.lemmas.List.{map-append, reverse-append, reverse-reverse}
+use Rattle.std.proofs.lemmas.List.Concat.{flat_map-append}
+use Rattle.std.proofs.lemmas.List.Elements.{All-head, All-tail, filter-append}
 use Rattle.turn_cell.specs.History.{entries_of}
 use Rattle.pipe_core.specs.declared.reply.Wake.{Wake}
-use Rattle.pipe_core.specs.History.{Run, Call, Commit, EndWriter, Read, Advance, EndReader, CancelRead, CancelFlush, bytes_of, writer_end}
-use Rattle.pipe_core.specs.Legal.{IsLegal, seat_of}
-use Rattle.pipe_core.specs.Pipe.{closing}
+use Rattle.pipe_core.specs.History.{Run, Call, Commit, EndWriter, Read, Advance, EndReader, CancelRead, CancelFlush, bytes_of, closing, writer_end, seat_of}
+use Rattle.pipe_core.specs.Legal.{IsLegal}
+use Rattle.pipe_core.specs.Answers.{Woke}
 use Rattle.pipe_shared.specs.declared.options.Options.{Options}
 use Rattle.pipe_shared.specs.Log.{calls_of, IsLawful}
-use Rattle.pipe_shared.specs.Heard.{CompletesBehind}
+use Rattle.pipe_shared.specs.Heard.{CallsBehind}
 use Rattle.pipe_shared.specs.Turns.{Seat}
 use Rattle.pipe_shared.specs.Ends.{Writer, IsEnd}
 use Rattle.relay_engine.specs.Filler.{written}
@@ -32,32 +33,16 @@ mine (e ∷ g) all = each (e.0 == 0) refl (mine g (All-tail (λ (e : ℕ × Call
     each true is rest = rw (← same, is) (ap (λ (x : List Call). e.1 ∷ x) rest)
     each false is rest = rw (← same, is) rest
 
-filter_append : (p : Call → Bool) (xs ys : List Call) → filter p (xs ++ ys) ≡ filter p xs ++ filter p ys
-filter_append p [] ys = refl
-filter_append p (x ∷ xs) ys = each (p x) (filter_append p xs ys)
-  where
-    each : (b : Bool) → filter p (xs ++ ys) ≡ filter p xs ++ filter p ys → cond b (x ∷ filter p (xs ++ ys)) (filter p (xs ++ ys)) ≡ cond b (x ∷ filter p xs) (filter p xs) ++ filter p ys
-    each true rest = ap (λ (l : List Call). x ∷ l) rest
-    each false rest = rest
-
 -- the commits of a history, in the order in which they were made
 abbrev pub commits_of : List Call → List (List Run)
 commits_of [] = []
 commits_of (Commit runs ∷ h) = commits_of h ++ runs ∷ []
 commits_of (call ∷ h) = commits_of h
 
-map_append : (xs ys : List (List Run)) → map (λ runs. Commit runs) (xs ++ ys) ≡ map (λ runs. Commit runs) xs ++ map (λ runs. Commit runs) ys
-map_append [] ys = refl
-map_append (x ∷ xs) ys = ap (λ (l : List Call). Commit x ∷ l) (map_append xs ys)
-
-flat_append : (xs ys : List (List Run)) → flat_map bytes_of (xs ++ ys) ≡ flat_map bytes_of xs ++ flat_map bytes_of ys
-flat_append [] ys = refl
-flat_append (x ∷ xs) ys = ap (λ (l : List ℕ). bytes_of x ++ l) (flat_append xs ys) ∙ sym (append_assoc (bytes_of x) (flat_map bytes_of xs) (flat_map bytes_of ys))
-
 pub bytes_are : (h : List Call) → flat_map bytes_of (commits_of h) ≡ written h
 bytes_are [] = refl
 bytes_are (Commit runs ∷ h) =
-    flat_append (commits_of h) (runs ∷ []) ∙ ap (λ (x : List ℕ). x ++ (bytes_of runs ++ [])) (bytes_are h) ∙ ap (λ (x : List ℕ). written h ++ x) (append-nil (bytes_of runs))
+    flat_map-append bytes_of (commits_of h) (runs ∷ []) ∙ ap (λ (x : List ℕ). x ++ (bytes_of runs ++ [])) (bytes_are h) ∙ ap (λ (x : List ℕ). written h ++ x) (append-nil (bytes_of runs))
 bytes_are (EndWriter code ∷ h) = bytes_are h
 bytes_are (Read ∷ h) = bytes_are h
 bytes_are (Advance c e ∷ h) = bytes_are h
@@ -68,11 +53,11 @@ bytes_are (CancelFlush ∷ h) = bytes_are h
 -- The writer's calls of a history in which it goes on are commits.
 commits_alone : (h : List Call) → IsNone (writer_end h) → filter (λ call. seat_of call == 0) (reverse h) ≡ map (λ runs. Commit runs) (commits_of h)
 commits_alone [] going = refl
-commits_alone (call ∷ h) going = ap (filter (λ call. seat_of call == 0)) (reverse-append (call ∷ []) h) ∙ filter_append (λ call. seat_of call == 0) (reverse h) (call ∷ []) ∙ each call going (λ still. commits_alone h still)
+commits_alone (call ∷ h) going = ap (filter (λ call. seat_of call == 0)) (reverse-append (call ∷ []) h) ∙ filter-append (λ call. seat_of call == 0) (reverse h) (call ∷ []) ∙ each call going (λ still. commits_alone h still)
   where
     each : (c : Call) → IsNone (writer_end (c ∷ h)) → (IsNone (writer_end h) → filter (λ call. seat_of call == 0) (reverse h) ≡ map (λ runs. Commit runs) (commits_of h))
         → filter (λ call. seat_of call == 0) (reverse h) ++ filter (λ call. seat_of call == 0) (c ∷ []) ≡ map (λ runs. Commit runs) (commits_of (c ∷ h))
-    each (Commit runs) going rest = ap (λ (x : List Call). x ++ Commit runs ∷ []) (rest going) ∙ sym (map_append (commits_of h) (runs ∷ []))
+    each (Commit runs) going rest = ap (λ (x : List Call). x ++ Commit runs ∷ []) (rest going) ∙ sym (map-append (λ (runs : List Run). Commit runs) (commits_of h) (runs ∷ []))
     each (EndWriter code) going rest = absurd cc
     each Read going rest = append-nil (filter (λ call. seat_of call == 0) (reverse h)) ∙ rest going
     each (Advance c e) going rest = append-nil (filter (λ call. seat_of call == 0) (reverse h)) ∙ rest going
@@ -89,15 +74,15 @@ own_is seat code found end lawful seen =
     sym end.own
     ∙ mine seat.seen lawful.seats
     ∙ ap (filter (λ call. seat_of call == 0)) order
-    ∙ filter_append (λ call. seat_of call == 0) (reverse found) (EndWriter code ∷ [])
+    ∙ filter-append (λ call. seat_of call == 0) (reverse found) (EndWriter code ∷ [])
     ∙ ap (λ (x : List Call). x ++ EndWriter code ∷ []) (commits_alone found legal.1)
 
 -- ---- the completion of a writer that has drafted nothing
 
-pub completes : (options : Options) (code : ℕ) (wake : Wake) (w : Writer) (seat : Seat) → MayClose w → CompletesBehind options 0 (seen_by w) w.draft code wake (calls_of seat.seen) → IsLawful seat.seen → IsEnd 0 seat → Completes code w seat
+pub completes : (options : Options) (code : ℕ) (wake : Wake) (w : Writer) (seat : Seat) → MayClose w → CallsBehind options 0 (seen_by w) (closing w.draft code) (Woke wake) (calls_of seat.seen) → IsLawful seat.seen → IsEnd 0 seat → Completes code w seat
 completes options code wake w seat may b lawful end =
     let found = b.heard ++ seen_by w in
-    let seen : calls_of seat.seen ≡ EndWriter code ∷ found = b.seen ∙ ap (λ (draft : List ℕ). closing draft code ++ found) may.settled in
+    let seen : calls_of seat.seen ≡ EndWriter code ∷ found = b.seen ∙ ap (λ (draft : List Run). closing draft code ++ found) may.settled in
     record {
       found = found;
       later = record { between = b.heard; all = b.others; is = refl };

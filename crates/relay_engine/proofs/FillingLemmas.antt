@@ -9,11 +9,8 @@ use Rattle.frame_model.specs.declared.ending.FillEnd.{FillEnd}
 use Rattle.frame_model.specs.declared.ending.FillEnd.TheVariants as taking
 use Rattle.pipe_core.specs.declared.reply.FlushReply.{FlushReply}
 use Rattle.pipe_core.specs.declared.reply.FlushReply.TheVariants as flush
-use Rattle.pipe_core.specs.History.{Run, Call, Commit, EndWriter, Read, Advance, EndReader, CancelRead, CancelFlush, bytes_of}
+use Rattle.pipe_core.specs.History.{Run, Call, Commit, EndWriter, Read, Advance, EndReader, CancelRead, CancelFlush, bytes_of, seat_of}
 use Rattle.pipe_core.specs.Flushes.{reply_to_commit}
-use Rattle.pipe_core.specs.Legal.{seat_of}
-use Rattle.pipe_core.specs.Pipe.{runs_of}
-use Rattle.pipe_core.proofs.PipeLemmas.{bytes_of_runs}
 use Rattle.pipe_shared.specs.declared.options.Options.{Options}
 use Rattle.pipe_shared.specs.declared.faults.TryFault.{TryFault}
 use Rattle.relay_engine.specs.Filler.{written}
@@ -73,13 +70,13 @@ later_commit others h k runs later = record { between = Commit runs ∷ later.be
 -- ---- a commit of the draft
 
 pub small : {P : Type 0} (at : P → List Call → Type 0) (writer : P → Drafting) (f : FillingState) (p : P) → f.taken ≤ f.limit → f.limit ≤ 2 ^ 40 → (h : List Call) × (bytes : List ℕ) × HasTaken at writer f p h bytes
-    → (h : List Call) × at p h × (length (written h) + length (writer p).draft ≤ 2 ^ 62)
+    → (h : List Call) × at p h × (length (written h) + length (bytes_of (writer p).draft) ≤ 2 ^ 62)
 small at writer f p within limit holds =
-    let t = holds.2 in (holds.0, t.stands, omega (arith, ap length t.all, length-append (written holds.0) (writer p).draft, t.counted, within, limit))
+    let t = holds.2 in (holds.0, t.stands, omega (arith, ap length t.all, length-append (written holds.0) (bytes_of (writer p).draft), t.counted, within, limit))
 
 module _ {P : Type 0} (at : P → List Call → Type 0) (others : Call → Type 0) (writer : P → Drafting) (apart : (call : Call) → others call → seat_of call ≢ 0) where
   pub committed : (options : Options) (reply answer : FlushReply) (inside f : FillingState) (owed : Bool) (p p' : P) → inside ≡ f → answer ≡ reply → (writer p').draft ≡ []
-      → ((h : List Call) → at p h → CallsLater at others h (Commit (runs_of (writer p).draft)) (λ found. answer ≡ reply_to_commit options.pause options.resume found (runs_of (writer p).draft)) p')
+      → ((h : List Call) → at p h → CallsLater at others h (Commit (writer p).draft) (λ found. answer ≡ reply_to_commit options.pause options.resume found (writer p).draft) p')
       → (h : List Call) (bytes : List ℕ) → HasTaken at writer f p h bytes → Commits at others writer options reply p (record inside { owed = owed; drafted = 0 }) p' h bytes
   committed options reply answer inside f owed p p' is same none calls h bytes t =
       let c = calls h t.stands in
@@ -90,13 +87,12 @@ module _ {P : Type 0} (at : P → List Call → Type 0) (others : Call → Type 
         holds = record {
           stands = c.stands;
           all =
-              ap (λ (x : List ℕ). (written c.found ++ bytes_of (runs_of (writer p).draft)) ++ x) none
-              ∙ append-nil (written c.found ++ bytes_of (runs_of (writer p).draft))
-              ∙ ap (λ (x : List ℕ). x ++ bytes_of (runs_of (writer p).draft)) (written_later others apart h c.found c.later)
-              ∙ ap (λ (x : List ℕ). written h ++ x) (bytes_of_runs (writer p).draft)
+              ap (λ (x : List Run). (written c.found ++ bytes_of (writer p).draft) ++ bytes_of x) none
+              ∙ append-nil (written c.found ++ bytes_of (writer p).draft)
+              ∙ ap (λ (x : List ℕ). x ++ bytes_of (writer p).draft) (written_later others apart h c.found c.later)
               ∙ t.all;
           counted = ap (λ x. x.taken) is ∙ t.counted;
-          drafted = sym (ap length none);
+          drafted = sym (ap (λ (x : List Run). length (bytes_of x)) none);
           settled = λ unowed. none;
         };
       }
@@ -110,9 +106,9 @@ module _ {P : Type 0} (at : P → List Call → Type 0) (others : Call → Type 
         later = c.later;
         holds = record {
           stands = c.stands;
-          all = ap (λ (x : List ℕ). x ++ (writer p').draft) (written_later others apart h c.found c.later) ∙ ap (λ (x : List ℕ). written h ++ x) same ∙ t.all;
+          all = ap (λ (x : List ℕ). x ++ bytes_of (writer p').draft) (written_later others apart h c.found c.later) ∙ ap (λ (x : List Run). written h ++ bytes_of x) same ∙ t.all;
           counted = t.counted;
-          drafted = t.drafted ∙ sym (ap length same);
+          drafted = t.drafted ∙ sym (ap (λ (x : List Run). length (bytes_of x)) same);
           settled = λ unowed. same ∙ t.settled unowed;
         };
       }
@@ -129,8 +125,8 @@ no_bytes (x ∷ xs) none = absurd cc
 
 -- ---- a step that committed nothing
 
-module _ {P : Type 0} (at : P → List Call → Type 0) (others : Call → Type 0) (writer : P → Drafting) (refuses : TryFault → P → P → Type 0) (options : Options) (is_full : ℕ → ℕ → ℕ → P → P → Type 0) where
-  pub refused_room : (f : FillingState) (p q : P) (s : SourceState) (refusal : NoRoom) (fault : TryFault) → refusal ≡ room.Refused fault → RefusesRoomTo is_full refuses refusal p q → (h : List Call) (bytes : List ℕ) → Keeps at others writer f q h bytes → FillsOn at others writer refuses options is_full f p s (Err fault) f q s h bytes
+module _ {P F : Type 0} (at : P → List Call → Type 0) (others : Call → Type 0) (writer : P → Drafting) (refuses : TryFault → P → P → Type 0) (options : Options) (is_full : F → P → P → Type 0) where
+  pub refused_room : (f : FillingState) (p q : P) (s : SourceState) (refusal : NoRoom F) (fault : TryFault) → refusal ≡ room.Refused fault → RefusesRoomTo is_full refuses refusal p q → (h : List Call) (bytes : List ℕ) → Keeps at others writer f q h bytes → FillsOn at others writer refuses options is_full f p s (Err fault) f q s h bytes
   refused_room f p q s refusal fault is refused h bytes k = record {
     taken = [];
     now = k.found;
@@ -138,19 +134,19 @@ module _ {P : Type 0} (at : P → List Call → Type 0) (others : Call → Type 
     holds = subst (HasTaken at writer f q k.found) (sym (append-nil bytes)) k.holds;
     loses = gives_nothing s;
     on = λ owed. inl refl;
-    cause = record { found = p; behind = omega arith; so = subst (λ (r : NoRoom). RefusesRoomTo is_full refuses r p q) is refused };
+    cause = record { found = p; behind = omega arith; so = subst (λ (r : NoRoom F). RefusesRoomTo is_full refuses r p q) is refused };
   }
 
-  pub found_full : (f : FillingState) (p q : P) (s : SourceState) (refusal : NoRoom) (held draft capacity : ℕ) → refusal ≡ room.Full held draft capacity → RefusesRoomTo is_full refuses refusal p q → (h : List Call) (bytes : List ℕ) → Keeps at others writer f q h bytes
-      → FillsOn at others writer refuses options is_full f p s (Ok (Full held draft capacity)) f q s h bytes
-  found_full f p q s refusal held draft capacity is full h bytes k = record {
+  pub found_full : (f : FillingState) (p q : P) (s : SourceState) (refusal : NoRoom F) (full : F) → refusal ≡ room.Full full → RefusesRoomTo is_full refuses refusal p q → (h : List Call) (bytes : List ℕ) → Keeps at others writer f q h bytes
+      → FillsOn at others writer refuses options is_full f p s (Ok (Full full)) f q s h bytes
+  found_full f p q s refusal full is found h bytes k = record {
     taken = [];
     now = k.found;
     later = later_or_commits others h k.found k.later;
     holds = subst (HasTaken at writer f q k.found) (sym (append-nil bytes)) k.holds;
     loses = (refl, refl);
     on = λ owed. inl refl;
-    cause = record { found = p; behind = omega arith; so = subst (λ (r : NoRoom). RefusesRoomTo is_full refuses r p q) is full };
+    cause = record { found = p; behind = omega arith; so = subst (λ (r : NoRoom F). RefusesRoomTo is_full refuses r p q) is found };
   }
 
   -- what was read gave no byte that is taken
@@ -164,9 +160,9 @@ module _ {P : Type 0} (at : P → List Call → Type 0) (others : Call → Type 
       holds : (writer q2).draft ≡ (writer q).draft → HasTaken at writer f q2 k.found (bytes ++ [])
       holds same = record {
         stands = stands k.found k.holds.stands;
-        all = ap (λ (x : List ℕ). written k.found ++ x) same ∙ k.holds.all ∙ sym (append-nil bytes);
+        all = ap (λ (x : List Run). written k.found ++ bytes_of x) same ∙ k.holds.all ∙ sym (append-nil bytes);
         counted = k.holds.counted ∙ ap length (sym (append-nil bytes));
-        drafted = k.holds.drafted ∙ sym (ap length same);
+        drafted = k.holds.drafted ∙ sym (ap (λ (x : List Run). length (bytes_of x)) same);
         settled = λ unowed. same ∙ k.holds.settled unowed;
       }
 
@@ -183,8 +179,8 @@ module _ {P : Type 0} (at : P → List Call → Type 0) (others : Call → Type 
       → HasTaken at writer f q k bytes → (d : DraftsSome left s (writer q).draft n (writer q2).draft s') → HasTaken at writer (record { limit = inside.limit; taken = inside.taken + n; owed = true; drafted = n }) q2 k (bytes ++ d.bytes)
   read_in inside f q q2 s s' left n is unowed stands k bytes t d =
       let none = t.settled unowed in
-      let before : written k ≡ bytes = sym (append-nil (written k)) ∙ ap (λ (x : List ℕ). written k ++ x) (sym none) ∙ t.all in
-      let draft : (writer q2).draft ≡ d.bytes = d.behind ∙ ap (λ (x : List ℕ). x ++ d.bytes) none in
+      let before : written k ≡ bytes = sym (append-nil (written k)) ∙ ap (λ (x : List Run). written k ++ bytes_of x) (sym none) ∙ t.all in
+      let draft : bytes_of (writer q2).draft ≡ d.bytes = d.behind ∙ ap (λ (x : List Run). bytes_of x ++ d.bytes) none in
       record {
         stands = stands k t.stands;
         all = ap (λ (x : List ℕ). written k ++ x) draft ∙ ap (λ (x : List ℕ). x ++ d.bytes) before;
@@ -193,7 +189,7 @@ module _ {P : Type 0} (at : P → List Call → Type 0) (others : Call → Type 
         settled = λ never. absurd cc;
       }
 
-  pub behind_read : (f f' : FillingState) (p q q2 p' : P) (s s' : SourceState) (left n : ℕ) (answer : Result Filled TryFault) (options2 : Options) → options2 ≡ options → f.owed ≡ false → (writer q).draft ≡ (writer p).draft → (writer p).exchanges ≤ (writer q2).exchanges
+  pub behind_read : (f f' : FillingState) (p q q2 p' : P) (s s' : SourceState) (left n : ℕ) (answer : Result (Filled F) TryFault) (options2 : Options) → options2 ≡ options → f.owed ≡ false → (writer q).draft ≡ (writer p).draft → (writer p).exchanges ≤ (writer q2).exchanges
       → (d : DraftsSome left s (writer q).draft n (writer q2).draft s') → (h : List Call) (bytes : List ℕ) → HasTaken at writer f p h bytes → (k : List Call) → Later others h k
       → Settles at others writer refuses options2 answer q2 f' p' k (bytes ++ d.bytes) → FillsOn at others writer refuses options is_full f p s answer f' p' s' h bytes
   behind_read f f' p q q2 p' s s' left n answer options2 same_options unowed same behind d h bytes t k later settles =
@@ -202,26 +198,26 @@ module _ {P : Type 0} (at : P → List Call → Type 0) (others : Call → Type 
       never : {T : Type 0} → f.owed ≡ true → T
       never owed = let both = sym unowed ∙ owed in absurd cc
 
-      draft : (writer q2).draft ≡ d.bytes
-      draft = d.behind ∙ ap (λ (x : List ℕ). x ++ d.bytes) (same ∙ t.settled unowed)
+      draft : bytes_of (writer q2).draft ≡ d.bytes
+      draft = d.behind ∙ ap (λ (x : List Run). bytes_of x ++ d.bytes) (same ∙ t.settled unowed)
 
-      size : (m : ℕ) → m ≡ length (writer q2).draft → (m ≡ length (writer p).draft + length d.bytes) × (0 < m)
-      size m is = (omega (arith, is, ap length draft, ap length (t.settled unowed)), omega (arith, is, ap length draft, d.size, d.some))
+      size : (m : ℕ) → m ≡ length (bytes_of (writer q2).draft) → (m ≡ length (bytes_of (writer p).draft) + length d.bytes) × (0 < m)
+      size m is = (omega (arith, is, ap length draft, ap (λ (x : List Run). length (bytes_of x)) (t.settled unowed)), omega (arith, is, ap length draft, d.size, d.some))
 
       -- what was read is no first call's
       never_first : {T : Type 0} → d.bytes ≡ [] → T
       never_first none = absurd (omega (arith, ap length none, d.size, d.some))
 
-      on : (reply : FlushReply) (c : Commits at others writer options reply q2 f' p' k (bytes ++ d.bytes)) → Later (OrCommits others) h (Commit (runs_of (writer q2).draft) ∷ c.found)
-      on reply c = later_commit others h c.found (runs_of (writer q2).draft) (later_or_commits others h c.found (later_on others h k c.found later c.later))
+      on : (reply : FlushReply) (c : Commits at others writer options reply q2 f' p' k (bytes ++ d.bytes)) → Later (OrCommits others) h (Commit (writer q2).draft ∷ c.found)
+      on reply c = later_commit others h c.found (writer q2).draft (later_or_commits others h c.found (later_on others h k c.found later c.later))
 
-      replied : (reply : FlushReply) (c : Commits at others writer options reply q2 f' p' k (bytes ++ d.bytes)) → Replied others options reply f.owed (writer p).draft h d.bytes (Commit (runs_of (writer q2).draft) ∷ c.found)
-      replied reply c = record { runs = runs_of (writer q2).draft; found = c.found; last = refl; replied = c.replied; first = λ none. never_first none }
+      replied : (reply : FlushReply) (c : Commits at others writer options reply q2 f' p' k (bytes ++ d.bytes)) → Replied others options reply f.owed (writer p).draft h d.bytes (Commit (writer q2).draft ∷ c.found)
+      replied reply c = record { runs = (writer q2).draft; found = c.found; last = refl; replied = c.replied; first = λ none. never_first none }
 
-      each : (a : Result Filled TryFault) → Settles at others writer refuses options a q2 f' p' k (bytes ++ d.bytes) → FillsOn at others writer refuses options is_full f p s a f' p' s' h bytes
+      each : (a : Result (Filled F) TryFault) → Settles at others writer refuses options a q2 f' p' k (bytes ++ d.bytes) → FillsOn at others writer refuses options is_full f p s a f' p' s' h bytes
       each (Ok (Moved m)) (is, (canceled, c)) = record {
         taken = d.bytes;
-        now = Commit (runs_of (writer q2).draft) ∷ c.found;
+        now = Commit (writer q2).draft ∷ c.found;
         later = on (flush.Ready canceled None) c;
         holds = c.holds;
         loses = d.given;
@@ -230,20 +226,20 @@ module _ {P : Type 0} (at : P → List Call → Type 0) (others : Call → Type 
       }
       each (Ok (Paused unexamined)) c = record {
         taken = d.bytes;
-        now = Commit (runs_of (writer q2).draft) ∷ c.found;
+        now = Commit (writer q2).draft ∷ c.found;
         later = on (flush.Pending unexamined) c;
         holds = c.holds;
         loses = d.given;
         on = λ owed. never owed;
         cause = replied (flush.Pending unexamined) c;
       }
-      each (Ok (Full held draft capacity)) never = absurd never
+      each (Ok (Full full)) never = absurd never
       each (Ok (Ended taking.End)) never = absurd never
       each (Ok (Ended taking.Fault)) never = absurd never
       each (Ok (Ended taking.Long)) never = absurd never
       each (Ok (Ended (taking.Gone code))) (canceled, c) = record {
         taken = d.bytes;
-        now = Commit (runs_of (writer q2).draft) ∷ c.found;
+        now = Commit (writer q2).draft ∷ c.found;
         later = on (flush.Ready canceled (Some code)) c;
         holds = c.holds;
         loses = d.given;
@@ -262,7 +258,7 @@ module _ {P : Type 0} (at : P → List Call → Type 0) (others : Call → Type 
 
   -- ---- a commit was owed
 
-  pub first_refused : (f f1 : FillingState) (p p1 : P) (s : SourceState) (fault : TryFault) → (h : List Call) (bytes : List ℕ) → Settles at others writer refuses options (Err fault) p f1 p1 h bytes
+  pub first_refused : (f f1 : FillingState) (p p1 : P) (s : SourceState) (fault : TryFault) → (h : List Call) (bytes : List ℕ) → Settles {F = F} at others writer refuses options (Err fault) p f1 p1 h bytes
       → FillsOn at others writer refuses options is_full f p s (Err fault) f1 p1 s h bytes
   first_refused f f1 p p1 s fault h bytes (refused, k) = record {
     taken = [];
@@ -275,27 +271,27 @@ module _ {P : Type 0} (at : P → List Call → Type 0) (others : Call → Type 
   }
 
   -- it is what the step tells
-  pub first_told : (f f1 : FillingState) (p p1 : P) (s : SourceState) (filled : Filled) → f.owed ≡ true → moves_nothing filled ≡ false → (h : List Call) (bytes : List ℕ) → Settles at others writer refuses options (Ok filled) p f1 p1 h bytes
+  pub first_told : (f f1 : FillingState) (p p1 : P) (s : SourceState) (filled : Filled F) → f.owed ≡ true → moves_nothing filled ≡ false → (h : List Call) (bytes : List ℕ) → Settles at others writer refuses options (Ok filled) p f1 p1 h bytes
       → FillsOn at others writer refuses options is_full f p s (Ok filled) f1 p1 s h bytes
   first_told f f1 p p1 s filled owed some h bytes settles = each filled some settles
     where
-      on : (reply : FlushReply) (c : Commits at others writer options reply p f1 p1 h bytes) → Later (OrCommits others) h (Commit (runs_of (writer p).draft) ∷ c.found)
-      on reply c = later_commit others h c.found (runs_of (writer p).draft) (later_or_commits others h c.found c.later)
+      on : (reply : FlushReply) (c : Commits at others writer options reply p f1 p1 h bytes) → Later (OrCommits others) h (Commit (writer p).draft ∷ c.found)
+      on reply c = later_commit others h c.found (writer p).draft (later_or_commits others h c.found c.later)
 
-      holds : (reply : FlushReply) (c : Commits at others writer options reply p f1 p1 h bytes) → HasTaken at writer f1 p1 (Commit (runs_of (writer p).draft) ∷ c.found) (bytes ++ [])
-      holds reply c = subst (HasTaken at writer f1 p1 (Commit (runs_of (writer p).draft) ∷ c.found)) (sym (append-nil bytes)) c.holds
+      holds : (reply : FlushReply) (c : Commits at others writer options reply p f1 p1 h bytes) → HasTaken at writer f1 p1 (Commit (writer p).draft ∷ c.found) (bytes ++ [])
+      holds reply c = subst (HasTaken at writer f1 p1 (Commit (writer p).draft ∷ c.found)) (sym (append-nil bytes)) c.holds
 
-      replied : (reply : FlushReply) (c : Commits at others writer options reply p f1 p1 h bytes) → Replied others options reply f.owed (writer p).draft h [] (Commit (runs_of (writer p).draft) ∷ c.found)
-      replied reply c = record { runs = runs_of (writer p).draft; found = c.found; last = refl; replied = c.replied; first = λ none. (owed, c.later, refl) }
+      replied : (reply : FlushReply) (c : Commits at others writer options reply p f1 p1 h bytes) → Replied others options reply f.owed (writer p).draft h [] (Commit (writer p).draft ∷ c.found)
+      replied reply c = record { runs = (writer p).draft; found = c.found; last = refl; replied = c.replied; first = λ none. (owed, c.later, refl) }
 
       positive : (n : ℕ) → (n == 0) ≡ false → 0 < n
       positive zero never = absurd cc
       positive (suc n) some = omega arith
 
-      each : (a : Filled) → moves_nothing a ≡ false → Settles at others writer refuses options (Ok a) p f1 p1 h bytes → FillsOn at others writer refuses options is_full f p s (Ok a) f1 p1 s h bytes
+      each : (a : Filled F) → moves_nothing a ≡ false → Settles at others writer refuses options (Ok a) p f1 p1 h bytes → FillsOn at others writer refuses options is_full f p s (Ok a) f1 p1 s h bytes
       each (Moved n) some (is, (canceled, c)) = record {
         taken = [];
-        now = Commit (runs_of (writer p).draft) ∷ c.found;
+        now = Commit (writer p).draft ∷ c.found;
         later = on (flush.Ready canceled None) c;
         holds = holds (flush.Ready canceled None) c;
         loses = gives_nothing s;
@@ -304,20 +300,20 @@ module _ {P : Type 0} (at : P → List Call → Type 0) (others : Call → Type 
       }
       each (Paused unexamined) some c = record {
         taken = [];
-        now = Commit (runs_of (writer p).draft) ∷ c.found;
+        now = Commit (writer p).draft ∷ c.found;
         later = on (flush.Pending unexamined) c;
         holds = holds (flush.Pending unexamined) c;
         loses = gives_nothing s;
         on = λ owed. inl refl;
         cause = replied (flush.Pending unexamined) c;
       }
-      each (Full held draft capacity) some never = absurd never
+      each (Full full) some never = absurd never
       each (Ended taking.End) some never = absurd never
       each (Ended taking.Fault) some never = absurd never
       each (Ended taking.Long) some never = absurd never
       each (Ended (taking.Gone code)) some (canceled, c) = record {
         taken = [];
-        now = Commit (runs_of (writer p).draft) ∷ c.found;
+        now = Commit (writer p).draft ∷ c.found;
         later = on (flush.Ready canceled (Some code)) c;
         holds = holds (flush.Ready canceled (Some code)) c;
         loses = gives_nothing s;
@@ -329,46 +325,46 @@ module _ {P : Type 0} (at : P → List Call → Type 0) (others : Call → Type 
   pub record WentThrough (p : P) (f1 : FillingState) (p1 : P) (h : List Call) (bytes : List ℕ) : Type 0 where
     pub found : List Call
     pub later : Later others h found
-    pub none : (writer p).draft ≡ []
+    pub none : bytes_of (writer p).draft ≡ []
     pub canceled : Bool
-    pub replied : reply_to_commit options.pause options.resume found (runs_of (writer p).draft) ≡ flush.Ready canceled None
-    pub holds : HasTaken at writer f1 p1 (Commit (runs_of (writer p).draft) ∷ found) bytes
+    pub replied : reply_to_commit options.pause options.resume found (writer p).draft ≡ flush.Ready canceled None
+    pub holds : HasTaken at writer f1 p1 (Commit (writer p).draft ∷ found) bytes
 
-  pub went_through : (f1 : FillingState) (p p1 : P) (filled : Filled) → moves_nothing filled ≡ true → (h : List Call) (bytes : List ℕ) → Settles at others writer refuses options (Ok filled) p f1 p1 h bytes → WentThrough p f1 p1 h bytes
-  went_through f1 p p1 (Moved n) nothing h bytes (is, (canceled, c)) = record { found = c.found; later = c.later; none = no_bytes (writer p).draft (sym is ∙ is_zero n nothing); canceled = canceled; replied = sym c.replied; holds = c.holds }
+  pub went_through : (f1 : FillingState) (p p1 : P) (filled : Filled F) → moves_nothing filled ≡ true → (h : List Call) (bytes : List ℕ) → Settles at others writer refuses options (Ok filled) p f1 p1 h bytes → WentThrough p f1 p1 h bytes
+  went_through f1 p p1 (Moved n) nothing h bytes (is, (canceled, c)) = record { found = c.found; later = c.later; none = no_bytes (bytes_of (writer p).draft) (sym is ∙ is_zero n nothing); canceled = canceled; replied = sym c.replied; holds = c.holds }
   went_through f1 p p1 (Paused unexamined) never h bytes settles = absurd cc
-  went_through f1 p p1 (Full held draft capacity) never h bytes settles = absurd cc
+  went_through f1 p p1 (Full full) never h bytes settles = absurd cc
   went_through f1 p p1 (Ended end) never h bytes settles = absurd cc
 
-  pub not_owed : (owed : Bool) (filled : Filled) → moves_nothing filled ≡ true → owed ≡ owes filled → owed ≡ false
+  pub not_owed : (owed : Bool) (filled : Filled F) → moves_nothing filled ≡ true → owed ≡ owes filled → owed ≡ false
   not_owed owed (Moved n) nothing is = is
   not_owed owed (Paused unexamined) never is = absurd cc
-  not_owed owed (Full held draft capacity) never is = absurd cc
+  not_owed owed (Full full) never is = absurd cc
   not_owed owed (Ended end) never is = absurd cc
 
-  pub went_on : (f f1 f' : FillingState) (p p1 p' : P) (s s' : SourceState) (answer : Result Filled TryFault) (options1 : Options) → options1 ≡ options → f1.taken ≡ f.taken → f1.limit ≡ f.limit → f1.owed ≡ false → (writer p).exchanges ≤ (writer p1).exchanges → (writer p1).draft ≡ []
-      → (h : List Call) (bytes : List ℕ) → (w : WentThrough p f1 p1 h bytes) → FillsOn at others writer refuses options1 is_full f1 p1 s answer f' p' s' (Commit (runs_of (writer p).draft) ∷ w.found) bytes
+  pub went_on : (f f1 f' : FillingState) (p p1 p' : P) (s s' : SourceState) (answer : Result (Filled F) TryFault) (options1 : Options) → options1 ≡ options → f1.taken ≡ f.taken → f1.limit ≡ f.limit → f1.owed ≡ false → (writer p).exchanges ≤ (writer p1).exchanges → (writer p1).draft ≡ []
+      → (h : List Call) (bytes : List ℕ) → (w : WentThrough p f1 p1 h bytes) → FillsOn at others writer refuses options1 is_full f1 p1 s answer f' p' s' (Commit (writer p).draft ∷ w.found) bytes
       → FillsOn at others writer refuses options is_full f p s answer f' p' s' h bytes
   went_on f f1 f' p p1 p' s s' answer options1 same_options taken limit unowed behind none h bytes w rest = record {
     taken = rest.taken;
     now = rest.now;
-    later = later_on (OrCommits others) h (Commit (runs_of (writer p).draft) ∷ w.found) rest.now (later_commit others h w.found (runs_of (writer p).draft) (later_or_commits others h w.found w.later)) rest.later;
+    later = later_on (OrCommits others) h (Commit (writer p).draft ∷ w.found) rest.now (later_commit others h w.found (writer p).draft (later_or_commits others h w.found w.later)) rest.later;
     holds = rest.holds;
     loses = rest.loses;
     on = λ owed. inr (record { found = w.found; later = w.later; canceled = w.canceled; replied = w.replied; behind = rest.later.between; is = rest.later.is });
-    cause = each answer (subst (λ (o : Options). FilledBy at others writer refuses o is_full answer f1 p1 (Commit (runs_of (writer p).draft) ∷ w.found) rest.taken p' rest.now) same_options rest.cause);
+    cause = each answer (subst (λ (o : Options). FilledBy at others writer refuses o is_full answer f1 p1 (Commit (writer p).draft ∷ w.found) rest.taken p' rest.now) same_options rest.cause);
   }
     where
-      replied : (reply : FlushReply) → Replied others options reply f1.owed (writer p1).draft (Commit (runs_of (writer p).draft) ∷ w.found) rest.taken rest.now → Replied others options reply f.owed (writer p).draft h rest.taken rest.now
+      replied : (reply : FlushReply) → Replied others options reply f1.owed (writer p1).draft (Commit (writer p).draft ∷ w.found) rest.taken rest.now → Replied others options reply f.owed (writer p).draft h rest.taken rest.now
       replied reply r = record { runs = r.runs; found = r.found; last = r.last; replied = r.replied; first = λ nothing. let both = sym unowed ∙ (r.first nothing).0 in absurd cc }
 
       meets : (met : P → P → Type 0) → Meets writer met p1 p' → Meets writer met p p'
       meets met m = record { found = m.found; behind = omega (arith, behind, m.behind); so = m.so }
 
-      each : (a : Result Filled TryFault) → FilledBy at others writer refuses options is_full a f1 p1 (Commit (runs_of (writer p).draft) ∷ w.found) rest.taken p' rest.now → FilledBy at others writer refuses options is_full a f p h rest.taken p' rest.now
-      each (Ok (Moved n)) (is, some, (canceled, r)) = (omega (arith, is, ap length none, ap length w.none), some, (canceled, replied (flush.Ready canceled None) r))
+      each : (a : Result (Filled F) TryFault) → FilledBy at others writer refuses options is_full a f1 p1 (Commit (writer p).draft ∷ w.found) rest.taken p' rest.now → FilledBy at others writer refuses options is_full a f p h rest.taken p' rest.now
+      each (Ok (Moved n)) (is, some, (canceled, r)) = (omega (arith, is, ap (λ (x : List Run). length (bytes_of x)) none, ap length w.none), some, (canceled, replied (flush.Ready canceled None) r))
       each (Ok (Paused unexamined)) r = replied (flush.Pending unexamined) r
-      each (Ok (Full held draft capacity)) m = meets (is_full held draft capacity) m
+      each (Ok (Full full)) m = meets (is_full full) m
       each (Ok (Ended taking.End)) m = tt
       each (Ok (Ended taking.Fault)) m = tt
       each (Ok (Ended taking.Long)) m = omega (arith, m, taken, limit)

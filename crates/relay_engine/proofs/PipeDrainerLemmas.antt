@@ -14,6 +14,7 @@ use Rattle.pipe_core.specs.declared.reply.Wake.{Wake}
 use Rattle.pipe_core.specs.Answers.{Woke}
 use Rattle.frame_model.specs.declared.job.Job.{Job}
 use Rattle.pipe_shared.specs.declared.options.Options.{Options}
+use Rattle.pipe_shared.specs.Name.{Name}
 use Rattle.pipe_shared.specs.Heard.{CallsBehind}
 use Rattle.pipe_shared.specs.Turns.{Makes, Seat}
 use Rattle.pipe_shared.specs.Ends.{Reader}
@@ -303,7 +304,7 @@ as_gains (ends.Rest place) before after text gained = gained
 as_gains (ends.Bad place kind) before after text gained = gained
 as_gains ends.SinkFault before after text gained = gained
 
-pub still_going : (d : DrainerState) (step : DrainStep) (pipe : CellState Options) → IsOfPipe pipe step d → end_by step ≡ None → IsSomeAnd d.end (λ r. IsIdle pipe r.seat)
+pub still_going : (d : DrainerState) (step : DrainStep) (pipe : CellState Name) → IsOfPipe pipe step d → end_by step ≡ None → IsSomeAnd d.end (λ r. IsIdle pipe r.seat)
 still_going d (Moved frames) pipe of more = of
 still_going d (Idle n) pipe of more = of
 still_going d (Busy word) pipe of more = of
@@ -336,7 +337,7 @@ wrote_all job before d d' k k' (Done told) end seat frames written ends_so is co
 
 -- ---- a new drainer, and a completion
 
-pub ends_reader : (options : Options) (code : ℕ) (wake : Wake) (r : Reader) (seat : Seat) → CallsBehind options 1 (seen_by r) (EndReader code) (Woke wake) (calls_of seat.seen) → Makes options r.seat (EndReader code) (Woke wake) seat → EndsReader code r seat
+pub ends_reader : (options : Options) (code : ℕ) (wake : Wake) (r : Reader) (seat : Seat) → CallsBehind options 1 (seen_by r) (EndReader code ∷ []) (Woke wake) (calls_of seat.seen) → Makes options r.seat (EndReader code ∷ []) (Woke wake) seat → EndsReader code r seat
 ends_reader options code wake r seat behind makes = record { options = options; wake = wake; behind = behind; calls = makes.found.own; own = ap (λ s. s.own) makes.after }
 
 pub begins_new : (d : DrainerState) (r : Reader) (job : Job) → d.end ≡ Some r → d.ending ≡ None → d.draining ≡ record { drained = record { job = job; place = 0; frames = 0; written = 0; known = 0 }; owed = None } → r.seat.seen ≡ [] → r.lent ≡ None → IsDraining d []

@@ -6,10 +6,10 @@ use Rattle.std.proofs.lemmas.List.{length-append}
 use Rattle.edge_core.specs.Device.{SourceState}
 use Rattle.frame_model.specs.declared.ending.FillEnd.{FillEnd}
 use Rattle.frame_model.specs.declared.ending.FillEnd.TheVariants as taking
-use Rattle.pipe_core.specs.History.{Call, Commit, EndWriter, Read, Advance, EndReader, CancelRead, CancelFlush, reader_end}
+use Rattle.pipe_core.specs.History.{Run, Call, Commit, bytes_of, EndWriter, Read, Advance, EndReader, CancelRead, CancelFlush, reader_end}
 use Rattle.pipe_core.specs.Legal.{IsLegal}
-use Rattle.pipe_core.specs.Pipe.{runs_of}
 use Rattle.pipe_shared.specs.declared.options.Options.{Options}
+use Rattle.pipe_shared.specs.declared.faults.Full as room
 use Rattle.pipe_shared.specs.declared.faults.TryFault.{TryFault}
 use Rattle.pipe_shared.specs.declared.faults.TryFault.TheVariants as try
 use Rattle.pipe_shared.specs.Log.{calls_of}
@@ -28,7 +28,7 @@ use Rattle.relay_engine.specs.declared.pipe_filler.FillStep.{FillStep}
 use Rattle.relay_engine.specs.declared.pipe_filler.FillStep.TheVariants.{Moved, Paused, Full, Busy, Worn, Done}
 
 pub all_is : (f : FillingState) (w : Writer) (now : List Call) (bytes : List ℕ) → HasTaken HasWritten drafting f w now bytes → bytes ≡ all_of w
-all_is f w now bytes t = sym t.all ∙ ap (λ (l : List Call). written l ++ w.draft) t.stands.0
+all_is f w now bytes t = sym t.all ∙ ap (λ (l : List Call). written l ++ bytes_of w.draft) t.stands.0
 
 -- what was taken is told by what the end has seen and drafts
 pub as_seen : (f : FillingState) (w : Writer) (now : List Call) (bytes : List ℕ) → HasTaken HasWritten drafting f w now bytes → HasTaken HasWritten drafting f w (seen_by w) (all_of w)
@@ -49,7 +49,7 @@ still_filler f w ending now bytes none within small t = record {
   gone = λ code is. let both = sym none ∙ is in absurd cc;
 }
 
-pub fills_as : (options : Options) (is_full : ℕ → ℕ → ℕ → Writer → Writer → Type 0) (f f' : FillingState) (end : FillerEnd) (w w' : Writer) (ending : Option FillEnd) (s : FillerState) (before after : SourceState) (answer : Result Filled TryFault)
+pub fills_as : (options : Options) (is_full : room.Full → Writer → Writer → Type 0) (f f' : FillingState) (end : FillerEnd) (w w' : Writer) (ending : Option FillEnd) (s : FillerState) (before after : SourceState) (answer : Result (Filled room.Full) TryFault)
     → filler_of f end ending ≡ s → end ≡ Open w → IsFiller f end ending
     → ((h : List Call) (bytes : List ℕ) → HasTaken HasWritten drafting f w h bytes → FillsOn HasWritten IsOthers drafting RefusesWriter options is_full f w before answer f' w' after h bytes)
     → FillsOn HasWritten IsOthers drafting RefusesWriter options is_full (filling_of s) s.end before answer f' w' after (seen_by s.end) (all_of s.end)
@@ -65,7 +65,7 @@ pub adds_on : (step : FillStep) (h m k : List Call) → Later (OrCommits IsOther
 adds_on (Done end) h m k later (found, is, more) = (found, is, later_on (OrCommits IsOthers) h m found later more)
 adds_on (Moved n) h m k later more = later_on (OrCommits IsOthers) h m k later more
 adds_on (Paused n) h m k later more = later_on (OrCommits IsOthers) h m k later more
-adds_on (Full held draft capacity) h m k later more = later_on (OrCommits IsOthers) h m k later more
+adds_on (Full full) h m k later more = later_on (OrCommits IsOthers) h m k later more
 adds_on (Busy word) h m k later more = later_on (OrCommits IsOthers) h m k later more
 adds_on (Worn entries) h m k later more = later_on (OrCommits IsOthers) h m k later more
 
@@ -98,7 +98,7 @@ may_close f end ending reason is i =
     record {
       settled = settled;
       legal = i.taken.stands.1;
-      small = omega (arith, i.taken.counted, i.within, i.small, length-append (written (seen_by (writer_in end))) (writer_in end).draft);
+      small = omega (arith, i.taken.counted, i.within, i.small, length-append (written (seen_by (writer_in end))) (bytes_of (writer_in end).draft));
     }
 
 -- What is so of a filler behind an attempt at its completion.
@@ -115,7 +115,7 @@ closed_on f (Open w) (Closed seat) ending reason (Ok done) is i c =
     let settled = if_some ending reason (w.draft ≡ []) is i.settled in
     let same : written c.found ≡ written (seen_by w) = written_later IsOthers (λ call apart. apart) (seen_by w) c.found c.later in
     let all : written (calls_of seat.seen) ++ [] ≡ all_of w =
-    append-nil (written (calls_of seat.seen)) ∙ ap written c.seen ∙ same ∙ sym (append-nil (written (seen_by w))) ∙ ap (λ (x : List ℕ). written (seen_by w) ++ x) (sym settled) in
+    append-nil (written (calls_of seat.seen)) ∙ ap written c.seen ∙ same ∙ sym (append-nil (written (seen_by w))) ∙ ap (λ (x : List Run). written (seen_by w) ++ bytes_of x) (sym settled) in
     let legal : IsLegal (EndWriter (end_code reason) ∷ c.found) = subst IsLegal c.seen c.legal in
     let gone : (code : ℕ) → reason ≡ taking.Gone code → reader_end c.found ≡ Some code = λ code gone. gone_later (seen_by w) c.found code c.later legal.0 (i.gone code (is ∙ ap (λ (e : FillEnd). Some e) gone)) in
     record {
@@ -124,7 +124,7 @@ closed_on f (Open w) (Closed seat) ending reason (Ok done) is i c =
           stands = (refl, c.legal);
           all = refl;
           counted = i.taken.counted ∙ ap length (sym all);
-          drafted = i.taken.drafted ∙ ap length settled;
+          drafted = i.taken.drafted ∙ ap (λ (x : List Run). length (bytes_of x)) settled;
           settled = λ unowed. refl;
         };
         within = i.within;
@@ -146,14 +146,14 @@ closed_on f (Open w) (Open w') ending reason (Err fault) is i (refuses, draft, h
     let later : Later IsOthers (seen_by w) (seen_by w') = subst (λ (l : List Call). Later IsOthers (seen_by w) l) found hears.later in
     let legal : IsLegal (seen_by w') = subst IsLegal found hears.legal in
     let same : all_of w' ≡ all_of w =
-    ap (λ (x : List ℕ). x ++ w'.draft) (written_later IsOthers (λ call apart. apart) (seen_by w) (seen_by w') later) ∙ ap (λ (x : List ℕ). written (seen_by w) ++ x) draft in
+    ap (λ (x : List ℕ). x ++ bytes_of w'.draft) (written_later IsOthers (λ call apart. apart) (seen_by w) (seen_by w') later) ∙ ap (λ (x : List Run). written (seen_by w) ++ bytes_of x) draft in
     record {
       filler = record {
         taken = record {
           stands = (refl, legal);
           all = refl;
           counted = i.taken.counted ∙ ap length (sym same);
-          drafted = i.taken.drafted ∙ ap length (sym draft);
+          drafted = i.taken.drafted ∙ ap (λ (x : List Run). length (bytes_of x)) (sym draft);
           settled = λ unowed. draft ∙ i.taken.settled unowed;
         };
         within = i.within;
@@ -198,18 +198,18 @@ added : (step : FillStep) (m k : List Call) → Adds step m k → (more : List C
 added (Done end) m k (found, is, later) = (EndWriter (end_code end) ∷ later.between, is ∙ ap (λ (l : List Call). EndWriter (end_code end) ∷ l) later.is)
 added (Moved n) m k later = (later.between, later.is)
 added (Paused n) m k later = (later.between, later.is)
-added (Full held draft capacity) m k later = (later.between, later.is)
+added (Full full) m k later = (later.between, later.is)
 added (Busy word) m k later = (later.between, later.is)
 added (Worn entries) m k later = (later.between, later.is)
 
-went_before : (options : Options) (draft : List ℕ) (h m k : List Call) → (more : List Call) × (k ≡ more ++ m) → GoesOn IsOthers options draft h m → GoesOn IsOthers options draft h k
+went_before : (options : Options) (draft : List Run) (h m k : List Call) → (more : List Call) × (k ≡ more ++ m) → GoesOn IsOthers options draft h m → GoesOn IsOthers options draft h k
 went_before options draft h m k (more, is) g = record {
   found = g.found;
   later = g.later;
   canceled = g.canceled;
   replied = g.replied;
   behind = more ++ g.behind;
-  is = is ∙ ap (λ (l : List Call). more ++ l) g.is ∙ sym (append_assoc more g.behind (Commit (runs_of draft) ∷ g.found));
+  is = is ∙ ap (λ (l : List Call). more ++ l) g.is ∙ sym (append_assoc more g.behind (Commit draft ∷ g.found));
 }
 
 pub steps_on : (options : Options) (old middle new : FillerState) (before after : SourceState) (reason : FillEnd) (step : FillStep) → EndsBy options reason old before middle after → CompletesBy step reason middle.end new.end → Adds step (seen_by middle.end) (seen_by new.end)
@@ -249,4 +249,4 @@ steps_on options old middle new before after reason step ends completes adds end
     }
     each (Moved n) never = absurd never
     each (Paused n) never = absurd never
-    each (Full held draft capacity) never = absurd never
+    each (Full full) never = absurd never

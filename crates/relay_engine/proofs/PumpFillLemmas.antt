@@ -12,17 +12,19 @@ use Rattle.frame_model.specs.Spelling.{longest_frame}
 use Rattle.pipe_core.specs.declared.reply.FlushReply.TheVariants as flush
 use Rattle.pipe_core.specs.declared.reply.ReadReply.TheVariants as read
 use Rattle.pipe_core.specs.declared.reply.Wake.{Wake}
-use Rattle.pipe_core.specs.History.{Call, Run, Commit, EndWriter, Read, Advance, EndReader, CancelRead, CancelFlush, bytes_of, writer_end, reader_end}
+use Rattle.pipe_core.specs.History.{Call, Run, Commit, EndWriter, Read, Advance, EndReader, CancelRead, CancelFlush, bytes_of, run_in, writer_end, reader_end}
 use Rattle.pipe_core.specs.Progress.{total, examined, held}
 use Rattle.pipe_core.specs.Reads.{reply_to_read}
 use Rattle.pipe_core.specs.Flushes.{reply_to_commit}
 use Rattle.pipe_core.specs.Legal.{IsLegal}
-use Rattle.pipe_core.specs.Pipe.{HoldsFor, closing, runs_of}
+use Rattle.pipe_core.specs.Pipe.{HoldsFor}
 use Rattle.pipe_core.specs.Standing.{AreThresholds}
 use Rattle.pipe_core.proofs.OrderLemmas.{ordered, total_commit}
 use Rattle.pipe_shared.specs.declared.options.Options.{Options}
+use Rattle.pipe_shared.specs.declared.faults.Full as room
+use Rattle.pipe_core.specs.Answers.{Woke}
 use Rattle.pipe_shared.specs.Options.{room_of}
-use Rattle.pipe_shared.specs.Local.{IsFull, Local, LocalCompletes}
+use Rattle.pipe_shared.specs.Local.{IsFull, Local, LocalAnswers}
 use Rattle.relay_engine.specs.Filler.{written, end_code}
 use Rattle.relay_engine.specs.Filling.{FillingState, FillsOn, HasTaken, OrCommits, Replied}
 use Rattle.relay_engine.specs.WriterEnds.{IsLocalFull, local_drafting}
@@ -86,19 +88,19 @@ record Committed (d : DrainState) (h now : List Call) (text bytes : List ℕ) (m
   all : total now ≡ bytes
 
 -- A fill step, of which the filler's part and the pipe behind it are told.
-abbrev pub Once : FillingState → Local → SourceState → Filled → FillingState → Local → SourceState → List Call → List ℕ → Type 0
+abbrev pub Once : FillingState → Local → SourceState → Filled room.Full → FillingState → Local → SourceState → List Call → List ℕ → Type 0
 Once f p before filled f' middle after h bytes = FillsOn HoldsLocal NoOthers local_drafting RefusesNone p.options (IsLocalFull tt) f p before (Ok filled) f' middle after h bytes
 
 pub rest_taken : (job : Job) (sb s : SourceState) (kb k : SinkState) (f : FillingState) (d : DrainingState) (p : Local) (ending : Option FillEnd) → (rest : AtRest job sb s kb k f d p ending) → HasTaken HoldsLocal local_drafting f p rest.on.h (total rest.on.h)
 rest_taken job sb s kb k f d p ending rest = let on = rest.on in record {
   stands = on.holds;
-  all = ap (λ (x : List ℕ). written on.h ++ x) on.draft ∙ append-nil (written on.h) ∙ on.goes.kept;
+  all = ap (λ (x : List ℕ). written on.h ++ bytes_of (run_in 0 x)) on.draft ∙ append-nil (written on.h) ∙ on.goes.kept;
   counted = on.counted;
-  drafted = on.drafted ∙ sym (ap length on.draft);
-  settled = λ none. on.draft;
+  drafted = on.drafted ∙ sym (ap (λ (x : List ℕ). length (bytes_of (run_in 0 x))) on.draft);
+  settled = λ none. ap (run_in 0) on.draft;
 }
 
-committed : (job : Job) (sb s s' : SourceState) (kb k : SinkState) (f f' : FillingState) (d : DrainingState) (p middle : Local) (ending : Option FillEnd) (filled : Filled) → (rest : AtRest job sb s kb k f d p ending) → (once : Once f p s filled f' middle s' rest.on.h (total rest.on.h)) → middle.pipe.bytes.draft ≡ []
+committed : (job : Job) (sb s s' : SourceState) (kb k : SinkState) (f f' : FillingState) (d : DrainingState) (p middle : Local) (ending : Option FillEnd) (filled : Filled room.Full) → (rest : AtRest job sb s kb k f d p ending) → (once : Once f p s filled f' middle s' rest.on.h (total rest.on.h)) → middle.pipe.bytes.draft ≡ []
     → Committed d.drained rest.on.h once.now rest.on.text (total rest.on.h ++ once.taken) middle
 committed job sb s s' kb k f f' d p middle ending filled rest once settled =
     let on = rest.on in
@@ -108,7 +110,7 @@ committed job sb s s' kb k f f' d p middle ending filled rest once settled =
     record {
       holds = holds;
       asked = a;
-      all = sym a.goes.kept ∙ sym (append-nil (written once.now)) ∙ sym (ap (λ (x : List ℕ). written once.now ++ x) settled) ∙ once.holds.all;
+      all = sym a.goes.kept ∙ sym (append-nil (written once.now)) ∙ sym (ap (λ (x : List ℕ). written once.now ++ bytes_of (run_in 0 x)) settled) ∙ once.holds.all;
     }
 
 -- ---- the steps
@@ -125,7 +127,7 @@ pub record Keeps (f : FillingState) (p : Local) (f' : FillingState) (p' : Local)
   pub within : f'.taken ≤ f'.limit
 
 -- bytes were taken
-took_bytes : (job : Job) (sb s s' : SourceState) (kb k : SinkState) (f f' : FillingState) (d : DrainingState) (p middle : Local) (ending : Option FillEnd) (filled : Filled) → (rest : AtRest job sb s kb k f d p ending) → (once : Once f p s filled f' middle s' rest.on.h (total rest.on.h)) → Keeps f p f' middle
+took_bytes : (job : Job) (sb s s' : SourceState) (kb k : SinkState) (f f' : FillingState) (d : DrainingState) (p middle : Local) (ending : Option FillEnd) (filled : Filled room.Full) → (rest : AtRest job sb s kb k f d p ending) → (once : Once f p s filled f' middle s' rest.on.h (total rest.on.h)) → Keeps f p f' middle
     → Gives s once.taken s' → 0 < length once.taken → StepFilled job sb s' kb k f f' d middle None
 took_bytes job sb s s' kb k f f' d p middle ending filled rest once keeps given some =
     let on = rest.on in
@@ -146,7 +148,7 @@ took_bytes job sb s s' kb k f f' d p middle ending filled rest once keeps given 
           omega (arith, counted, keeps.within, keeps.limit, on.limit),
         );
         counted = counted;
-        drafted = once.holds.drafted ∙ ap length keeps.draft;
+        drafted = once.holds.drafted ∙ ap (λ (x : List ℕ). length (bytes_of (run_in 0 x))) keeps.draft;
         limit = keeps.limit ∙ on.limit;
         job_is = on.job_is;
         wrote = on.wrote;
@@ -164,15 +166,15 @@ took_bytes job sb s s' kb k f f' d p middle ending filled rest once keeps given 
     less false size = omega (arith, keeps.limit, size, keeps.within, some)
 
 -- no byte was taken, and the writer has completed
-took_end : (job : Job) (sb s s' : SourceState) (kb k : SinkState) (f f' : FillingState) (d : DrainingState) (p middle p' : Local) (ending : Option FillEnd) (filled : Filled) (end : FillEnd) (wake : Wake) → (rest : AtRest job sb s kb k f d p ending) → (once : Once f p s filled f' middle s' rest.on.h (total rest.on.h)) → middle.pipe.bytes.draft ≡ []
-    → Keeps f p f' p' → LocalCompletes middle middle.pipe.bytes.draft (end_code end) wake p' → once.taken ≡ [] → ((code : ℕ) → end ≢ taking.Gone code) → TakenSoFar job (total rest.on.h) (Some end) sb s'
+took_end : (job : Job) (sb s s' : SourceState) (kb k : SinkState) (f f' : FillingState) (d : DrainingState) (p middle p' : Local) (ending : Option FillEnd) (filled : Filled room.Full) (end : FillEnd) (wake : Wake) → (rest : AtRest job sb s kb k f d p ending) → (once : Once f p s filled f' middle s' rest.on.h (total rest.on.h)) → middle.pipe.bytes.draft ≡ []
+    → Keeps f p f' p' → LocalAnswers middle (EndWriter (end_code end) ∷ []) (Woke wake) p' → once.taken ≡ [] → ((code : ℕ) → end ≢ taking.Gone code) → TakenSoFar job (total rest.on.h) (Some end) sb s'
     → StepFilled job sb s' kb k f f' d p' (Some end)
 took_end job sb s s' kb k f f' d p middle p' ending filled end wake rest once settled keeps completes none not_gone taken =
     let on = rest.on in
     let h = on.h in
     let c = committed job sb s s' kb k f f' d p middle ending filled rest once settled in
     let all : total once.now ≡ total h = c.all ∙ ap (λ (x : List ℕ). total h ++ x) none ∙ append-nil (total h) in
-    let holds : HoldsFor p'.pipe (EndWriter (end_code end) ∷ once.now) = subst (λ (x : List ℕ). HoldsFor p'.pipe (closing x (end_code end) ++ once.now)) settled (completes.stands once.now c.holds) in
+    let holds : HoldsFor p'.pipe (EndWriter (end_code end) ∷ once.now) = completes.stands once.now c.holds in
     let counted : f'.taken ≡ length (total once.now) = once.holds.counted ∙ sym (ap length c.all) in
     let same : f'.taken ≡ f.taken = counted ∙ ap length all ∙ sym on.counted in
     record {
@@ -184,7 +186,7 @@ took_end job sb s s' kb k f f' d p middle p' ending filled end wake rest once se
         fresh = on.fresh;
         taken = subst (λ (x : List ℕ). TakenSoFar job x (Some end) sb s') (sym all) taken;
         counted = counted;
-        drafted = once.holds.drafted ∙ ap length settled;
+        drafted = once.holds.drafted ∙ ap (λ (x : List ℕ). length (bytes_of (run_in 0 x))) settled;
         limit = keeps.limit ∙ on.limit;
         job_is = on.job_is;
         wrote = on.wrote;
@@ -211,19 +213,19 @@ NeverBoth = (pause resume : ℕ) (h : List Call) (examined held : ℕ) → (paus
 
 -- a pipe that rests doesn't hold the writer, so bytes were taken where it does
 some_taken : (job : Job) (sb s : SourceState) (kb k : SinkState) (f : FillingState) (d : DrainingState) (p : Local) (ending : Option FillEnd) (n : ℕ) (taken : List ℕ) (now : List Call) → NeverBoth → (rest : AtRest job sb s kb k f d p ending)
-    → Replied NoOthers p.options (flush.Pending n) f.owed p.pipe.bytes.draft rest.on.h taken now → 0 < length taken
+    → Replied NoOthers p.options (flush.Pending n) f.owed (run_in 0 p.pipe.bytes.draft) rest.on.h taken now → 0 < length taken
 some_taken job sb s kb k f d p ending n [] now law rest replied =
     let first = replied.first refl in
     let found = later_same rest.on.h replied.found first.1 in
-    let runs : replied.runs ≡ [] = first.2 ∙ ap (λ (x : List ℕ). runs_of x) rest.on.draft in
+    let runs : replied.runs ≡ [] = first.2 ∙ ap (run_in 0) rest.on.draft in
     absurd (law p.options.pause p.options.resume rest.on.h (examined rest.on.h) n rest.on.thresholds.1 rest.on.holds.marks.legal rest.waits
     (sym (ap (λ (x : List Call). reply_to_commit p.options.pause p.options.resume x []) found) ∙ sym (ap (λ (r : List Run). reply_to_commit p.options.pause p.options.resume replied.found r) runs) ∙ sym replied.replied))
 some_taken job sb s kb k f d p ending n (b ∷ bytes) now law rest replied = omega arith
 
 -- nor is it full
-never_full : (job : Job) (sb s s' : SourceState) (kb k : SinkState) (f f' : FillingState) (d : DrainingState) (p middle : Local) (ending : Option FillEnd) (filled : Filled) (held_told draft_told capacity : ℕ) → (rest : AtRest job sb s kb k f d p ending) → (once : Once f p s filled f' middle s' rest.on.h (total rest.on.h)) → Keeps f p f' middle → once.taken ≡ []
-    → IsFull 1 held_told draft_told capacity middle → ⊥
-never_full job sb s s' kb k f f' d p middle ending filled held_told draft_told capacity rest once keeps none full =
+never_full : (job : Job) (sb s s' : SourceState) (kb k : SinkState) (f f' : FillingState) (d : DrainingState) (p middle : Local) (ending : Option FillEnd) (filled : Filled room.Full) (told : room.Full) → (rest : AtRest job sb s kb k f d p ending) → (once : Once f p s filled f' middle s' rest.on.h (total rest.on.h)) → Keeps f p f' middle → once.taken ≡ []
+    → IsFull 1 told middle → ⊥
+never_full job sb s s' kb k f f' d p middle ending filled told rest once keeps none full =
     let on = rest.on in
     let c = committed job sb s s' kb k f f' d p middle ending filled rest once keeps.draft in
     let now = once.now in
@@ -233,13 +235,13 @@ never_full job sb s s' kb k f f' d p middle ending filled held_told draft_told c
     let held_is : middle.pipe.bytes.held ≡ drop d.drained.place (total now) =
     c.holds.held ∙ ap (λ (o : Option ℕ). if is_none o then held now else []) c.asked.goes.attended ∙ ap (λ (n : ℕ). drop n (total now)) (sym drained.place) in
     let room : longest_frame job.input job.max ≤ room_of middle.options = subst (λ (o : Options). longest_frame job.input job.max ≤ room_of o) (sym keeps.options) on.room in
-    omega (arith, ap length held_is, ap (λ (x : List ℕ). length (drop d.drained.place x)) seen, drained.short, full.held_told, full.draft_told, full.capacity_told, full.full, ap length keeps.draft, room, longest_same d.drained job on.job_is)
+    omega (arith, ap length held_is, ap (λ (x : List ℕ). length (drop d.drained.place x)) seen, drained.short, full.lacks.full, ap length keeps.draft, room, longest_same d.drained job on.job_is)
   where
     longest_same : (d : DrainState) (job : Job) → d.job ≡ job → longest_frame d.job.input d.job.max ≡ longest_frame job.input job.max
     longest_same d job is = ap (λ (j : Job). longest_frame j.input j.max) is
 
 -- nor is the reader gone
-never_gone : (d : DrainState) (text : List ℕ) (options : Options) (owed : Bool) (draft : List ℕ) (h : List Call) (taken : List ℕ) (now : List Call) (canceled : Bool) (code : ℕ) → Goes d now text → Replied NoOthers options (flush.Ready canceled (Some code)) owed draft h taken now → ⊥
+never_gone : (d : DrainState) (text : List ℕ) (options : Options) (owed : Bool) (draft : List Run) (h : List Call) (taken : List ℕ) (now : List Call) (canceled : Bool) (code : ℕ) → Goes d now text → Replied NoOthers options (flush.Ready canceled (Some code)) owed draft h taken now → ⊥
 never_gone d text options owed draft h taken now canceled code goes replied =
     let said = gone_says options.pause options.resume replied.found replied.runs canceled (Some code) (sym replied.replied) in
     let attended : reader_end replied.found ≡ None = sym (ap (λ (x : List Call). reader_end x) replied.last) ∙ goes.attended in
@@ -263,15 +265,15 @@ filled job sb s s' kb k f f' d p p' ending result law rest fills keeps = by_step
     taken : TakenSoFar job (total rest.on.h) None sb s
     taken = subst (λ (o : Option FillEnd). TakenSoFar job (total rest.on.h) o sb s) rest.none_yet rest.on.taken
 
-    by_step : (filled : Filled) (middle : Local) → (once : Once f p s filled f' middle s' rest.on.h (total rest.on.h)) → middle.pipe.bytes.draft ≡ [] → EndsBy filled middle result p' → StepFilled job sb s' kb k f f' d p' result
+    by_step : (filled : Filled room.Full) (middle : Local) → (once : Once f p s filled f' middle s' rest.on.h (total rest.on.h)) → middle.pipe.bytes.draft ≡ [] → EndsBy filled middle result p' → StepFilled job sb s' kb k f f' d p' result
     by_step (Moved n) middle once settled ends =
-        let some : 0 < length once.taken = omega (arith, once.cause.0, once.cause.1, ap length rest.on.draft) in
+        let some : 0 < length once.taken = omega (arith, once.cause.0, once.cause.1, ap (λ (x : List ℕ). length (bytes_of (run_in 0 x))) rest.on.draft) in
         more middle ends.0 ends.1 (took_bytes job sb s s' kb k f f' d p middle ending (Moved n) rest once (stays middle ends.1) once.loses some)
     by_step (Paused n) middle once settled ends =
         more middle ends.0 ends.1 (took_bytes job sb s s' kb k f f' d p middle ending (Paused n) rest once (stays middle ends.1) once.loses (some_taken job sb s kb k f d p ending n once.taken once.now law rest once.cause))
-    by_step (Full in_pipe drafted capacity) middle once settled ends =
+    by_step (Full told) middle once settled ends =
         let full = once.cause.so in
-        absurd (never_full job sb s s' kb k f f' d p middle ending (Full in_pipe drafted capacity) in_pipe drafted capacity rest once (stays middle ends.1) once.loses.0 (subst (λ (x : Local). IsFull 1 in_pipe drafted capacity x) (sym full.1) full.0))
+        absurd (never_full job sb s s' kb k f f' d p middle ending (Full told) told rest once (stays middle ends.1) once.loses.0 (subst (λ (x : Local). IsFull 1 told x) (sym full.1) full.0))
     by_step (Ended taking.End) middle once settled ends =
         at_end taking.End ends.0 (took_end job sb s s' kb k f f' d p middle p' ending (Ended taking.End) taking.End ends.1.0 rest once settled keeps ends.1.1 once.loses.0 (λ code is. absurd cc) (record {
           dropped = [];
@@ -307,7 +309,7 @@ filled job sb s s' kb k f f' d p p' ending result law rest fills keeps = by_step
         }))
     by_step (Ended (taking.Gone code)) middle once settled ends =
         let c = committed job sb s s' kb k f f' d p middle ending (Ended (taking.Gone code)) rest once settled in
-        absurd (never_gone d.drained rest.on.text p.options f.owed p.pipe.bytes.draft rest.on.h once.taken once.now once.cause.0 code c.asked.goes once.cause.1)
+        absurd (never_gone d.drained rest.on.text p.options f.owed (run_in 0 p.pipe.bytes.draft) rest.on.h once.taken once.now once.cause.0 code c.asked.goes once.cause.1)
 
 pub small_total : (p : Local) (h : List Call) → HoldsFor p.pipe h → p.pipe.control.committed ≤ 2 ^ 62
 small_total p h holds = omega (arith, holds.marks.committed, (ordered h holds.marks.legal).total_in)

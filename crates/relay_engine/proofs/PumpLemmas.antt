@@ -15,14 +15,13 @@ use Rattle.frame_model.specs.Cut.{Open, cut}
 use Rattle.frame_model.specs.Translation.{translation_of}
 use Rattle.frame_model.proofs.FrontLemmas.{front_empty}
 use Rattle.relay_model.specs.Run.{IsTaken}
-use Rattle.pipe_core.specs.History.{Call, Run, Commit, EndWriter, Read, Advance, EndReader, CancelRead, CancelFlush, writer_end, reader_end}
+use Rattle.pipe_core.specs.History.{Call, Run, Commit, EndWriter, Read, Advance, EndReader, CancelRead, CancelFlush, writer_end, reader_end, seat_of}
 use Rattle.pipe_core.specs.Progress.{total, examined, unexamined, held, canceled_read, canceled_flush}
 use Rattle.pipe_core.specs.Reads.{read_is_ready, reply_to_read}
 use Rattle.pipe_core.specs.declared.reply.ReadReply.TheVariants as read
 use Rattle.pipe_core.specs.Lends.{lend}
 use Rattle.pipe_core.specs.Flushes.{flush_is_ready, reply_to_commit}
 use Rattle.pipe_core.specs.declared.reply.FlushReply.TheVariants as flush
-use Rattle.pipe_core.specs.Legal.{seat_of}
 use Rattle.pipe_core.specs.Pipe.{HoldsFor}
 use Rattle.pipe_core.specs.Standing.{AreThresholds}
 use Rattle.pipe_shared.specs.declared.options.Options.{Options}

@@ -1,11 +1,11 @@
 -- What the ends of a pipe for two threads come to see by their calls.
-use Rattle.std.proofs.Common.{◌≡◌, ◌≢◌, ℕ, List, ◌++◌, refl, sym, ap, ◌∙◌, subst}
+use Rattle.std.proofs.Common.{◌≡◌, ◌≢◌, ℕ, List, [], ◌∷◌, ◌++◌, refl, sym, ap, ◌∙◌, subst}
 use Rattle.pipe_core.specs.declared.reply.ReadReply.{ReadReply}
 use Rattle.pipe_core.specs.declared.reply.Wake.{Wake}
-use Rattle.pipe_core.specs.History.{Call, Read, Advance}
+use Rattle.pipe_core.specs.History.{Call, Read, Advance, seat_of}
 use Rattle.pipe_core.specs.Reads.{reply_to_read}
 use Rattle.pipe_core.specs.Wakes.{wake_of}
-use Rattle.pipe_core.specs.Legal.{IsLegal, seat_of}
+use Rattle.pipe_core.specs.Legal.{IsLegal}
 use Rattle.pipe_core.specs.Answers.{Answer, Gave, Woke, answer_to}
 use Rattle.pipe_shared.specs.declared.options.Options.{Options}
 use Rattle.pipe_shared.specs.declared.faults.TryFault.{TryFault}
@@ -18,7 +18,7 @@ use Rattle.relay_engine.specs.Later.{CallsLater, HearsLater}
 use Rattle.relay_engine.specs.ReaderEnds.{HasRead}
 
 -- a reader's call, and what its answer says
-called : (options : Options) (call : Call) (answer : Answer) (holds : List Call → Type 0) (old new : Reader) (h : List Call) → CallsBehind options 1 (calls_of old.seat.seen) call answer (calls_of new.seat.seen) → HasRead old h
+called : (options : Options) (call : Call) (answer : Answer) (holds : List Call → Type 0) (old new : Reader) (h : List Call) → CallsBehind options 1 (calls_of old.seat.seen) (call ∷ []) answer (calls_of new.seat.seen) → HasRead old h
     → ((found : List Call) → answer ≡ answer_to options.pause options.resume call found → holds found) → CallsLater HasRead (λ c. seat_of c ≢ 1) h call holds new
 called options call answer holds old new h behind at says =
     let found = behind.heard ++ calls_of old.seat.seen in
@@ -34,12 +34,12 @@ called options call answer holds old new h behind at says =
 same_reply : (reply reply' : ReadReply) (wake wake' : Wake) → Gave reply wake ≡ Gave reply' wake' → reply ≡ reply'
 same_reply reply reply' wake wake' e = cc
 
-pub has_read : (options : Options) (reply : ReadReply) (wake : Wake) (old new : Reader) (h : List Call) → CallsBehind options 1 (calls_of old.seat.seen) Read (Gave reply wake) (calls_of new.seat.seen) → HasRead old h
+pub has_read : (options : Options) (reply : ReadReply) (wake : Wake) (old new : Reader) (h : List Call) → CallsBehind options 1 (calls_of old.seat.seen) (Read ∷ []) (Gave reply wake) (calls_of new.seat.seen) → HasRead old h
     → CallsLater HasRead (λ c. seat_of c ≢ 1) h Read (λ found. reply ≡ reply_to_read found) new
 has_read options reply wake old new h behind at =
     called options Read (Gave reply wake) (λ found. reply ≡ reply_to_read found) old new h behind at (λ found told. same_reply reply (reply_to_read found) wake (wake_of options.pause options.resume Read found) told)
 
-pub has_advanced : (options : Options) (c e : ℕ) (wake : Wake) (old new : Reader) (h : List Call) → CallsBehind options 1 (calls_of old.seat.seen) (Advance c e) (Woke wake) (calls_of new.seat.seen) → HasRead old h
+pub has_advanced : (options : Options) (c e : ℕ) (wake : Wake) (old new : Reader) (h : List Call) → CallsBehind options 1 (calls_of old.seat.seen) (Advance c e ∷ []) (Woke wake) (calls_of new.seat.seen) → HasRead old h
     → CallsLater HasRead (λ c. seat_of c ≢ 1) h (Advance c e) (λ found. Unit {0}) new
 has_advanced options c e wake old new h behind at = called options (Advance c e) (Woke wake) (λ found. Unit {0}) old new h behind at (λ found told. tt)
 

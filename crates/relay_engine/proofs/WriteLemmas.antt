@@ -141,5 +141,3 @@ counts_one job x at_end written n frames k len more text payload passes is short
     }
 
 -- one span is all of its bytes
-pub one_span : (xs : List ℕ) → bytes_of (whole_of (xs ∷ [])) ≡ xs
-one_span xs = take_all (length (xs ++ []) - 0) (xs ++ []) (omega arith) ∙ append-nil xs

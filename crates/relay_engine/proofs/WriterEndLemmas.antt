@@ -50,7 +50,7 @@ reply_of none (Flushed reply wake) = reply
 reply_of none (Gave reply wake) = none
 reply_of none (Woke wake) = none
 
-pub called : (options : Options) (runs : List Run) (reply answer : FlushReply) (wake : Wake) (w w' : Writer) → CallsBehind options 0 (calls_of w.seat.seen) (Commit runs) (Flushed answer wake) (calls_of w'.seat.seen) → reply ≡ answer → (h : List Call) → HasWritten w h
+pub called : (options : Options) (runs : List Run) (reply answer : FlushReply) (wake : Wake) (w w' : Writer) → CallsBehind options 0 (calls_of w.seat.seen) (Commit runs ∷ []) (Flushed answer wake) (calls_of w'.seat.seen) → reply ≡ answer → (h : List Call) → HasWritten w h
     → CallsLater HasWritten IsOthers h (Commit runs) (λ found. reply ≡ reply_to_commit options.pause options.resume found runs) w'
 called options runs reply answer wake w w' b same h at =
     let legal : IsLegal (Commit runs ∷ (b.heard ++ calls_of w.seat.seen)) = subst IsLegal b.seen b.legal in

@@ -4,10 +4,10 @@ use Rattle.std.specs.List.{AllByRecursion}
 use Rattle.std.specs.Io.KnownBytes.{Appends}
 use Rattle.edge_core.specs.Device.{SinkState, SinkFails, Takes, HasRisen}
 use Rattle.pipe_core.specs.declared.reply.ReadReply.TheVariants as read
-use Rattle.pipe_core.specs.History.{Call, Read, Advance}
+use Rattle.pipe_core.specs.History.{Call, Read, Advance, seat_of}
 use Rattle.pipe_core.specs.Progress.{total, examined}
 use Rattle.pipe_core.specs.Reads.{reply_to_read}
-use Rattle.pipe_core.specs.Legal.{IsLegal, MayFollow, seat_of}
+use Rattle.pipe_core.specs.Legal.{IsLegal, MayFollow}
 use Rattle.pipe_shared.specs.declared.faults.TryFault.{TryFault}
 use Rattle.relay_engine.specs.Later.{Later}
 use Rattle.relay_engine.specs.Frames.{Breaks, Drains}

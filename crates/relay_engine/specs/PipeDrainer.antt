@@ -2,9 +2,10 @@
 use Rattle.std.specs.Prelude.{ℕ, ◌≡◌, ◌≢◌, Bool, false, List, [], ◌∷◌, ◌++◌, Option, Some, None, IsSomeAnd}
 use Rattle.edge_core.specs.Device.{SinkState}
 use Rattle.turn_cell.specs.Seat.{CellState, IsIdle}
-use Rattle.pipe_core.specs.History.{Call, EndReader}
-use Rattle.pipe_core.specs.Legal.{IsLegal, seat_of}
+use Rattle.pipe_core.specs.History.{Call, EndReader, seat_of}
+use Rattle.pipe_core.specs.Legal.{IsLegal}
 use Rattle.pipe_shared.specs.declared.options.Options.{Options}
+use Rattle.pipe_shared.specs.Name.{Name}
 use Rattle.pipe_shared.specs.declared.faults.TryFault.{TryFault}
 use Rattle.pipe_shared.specs.declared.faults.TryFault.TheVariants as try
 use Rattle.pipe_shared.specs.Log.{calls_of}
@@ -97,7 +98,7 @@ pub record StepsDrainer (d : DrainerState) (before : SinkState) (step : DrainSte
   pub job : d'.draining.drained.job ≡ d.draining.drained.job
 
 -- Its end, or its seat once it has completed, is one of this pipe's.
-abbrev pub IsOfPipe : CellState Options → DrainStep → DrainerState → Type 0
+abbrev pub IsOfPipe : CellState Name → DrainStep → DrainerState → Type 0
 IsOfPipe pipe (Done end) d = IsSomeAnd d.done (λ seat. IsIdle pipe seat)
 IsOfPipe pipe step d = IsSomeAnd d.end (λ r. IsIdle pipe r.seat)
 
@@ -105,7 +106,7 @@ IsOfPipe pipe step d = IsSomeAnd d.end (λ r. IsIdle pipe r.seat)
 pub record EndsReader (code : ℕ) (r : Reader) (seat : Seat) : Type 0 where
   pub options : Options
   pub wake : Wake
-  pub behind : CallsBehind options 1 (seen_by r) (EndReader code) (Woke wake) (calls_of seat.seen)
+  pub behind : CallsBehind options 1 (seen_by r) (EndReader code ∷ []) (Woke wake) (calls_of seat.seen)
   pub calls : List Call
   pub own : seat.own ≡ calls ++ EndReader code ∷ []
 

@@ -57,7 +57,7 @@ seen_by w = calls_of w.seat.seen
 
 -- the bytes of its commits, and behind them what is drafted
 abbrev pub all_of : Writer → List ℕ
-all_of w = written (seen_by w) ++ w.draft
+all_of w = written (seen_by w) ++ bytes_of w.draft
 
 -- Nothing was taken yet, and more may be.
 abbrev pub IsUnused : FillerState → Type 0
@@ -92,9 +92,9 @@ pub record HasEnded (end : FillEnd) (w : Writer) : Type 0 where
 -- why a step answered so
 abbrev pub Tells : Options → FillStep → FillerState → List ℕ → FillerState → Type 0
 Tells options (Moved n) old taken new =
-    (n ≡ length old.end.draft + length taken) × (0 < n) × ((canceled : Bool) × Replied IsOthers options (flush.Ready canceled None) old.owed old.end.draft (seen_by old.end) taken (seen_by new.end))
+    (n ≡ length (bytes_of old.end.draft) + length taken) × (0 < n) × ((canceled : Bool) × Replied IsOthers options (flush.Ready canceled None) old.owed old.end.draft (seen_by old.end) taken (seen_by new.end))
 Tells options (Paused unexamined) old taken new = Replied IsOthers options (flush.Pending unexamined) old.owed old.end.draft (seen_by old.end) taken (seen_by new.end)
-Tells options (Full held draft capacity) old taken new = Meets drafting (FindsFull options 1 held draft capacity) old.end new.end
+Tells options (Full full) old taken new = Meets drafting (FindsFull options 1 full) old.end new.end
 Tells options (Busy word) old taken new = Meets drafting (λ found w. FindsHeld word found.seat w.seat) old.end new.end
 Tells options (Worn entries) old taken new = Meets drafting (λ found w. FindsWorn entries found.seat w.seat) old.end new.end
 Tells options (Done end) old taken new = (new.ending ≡ Some end) × HasEnded end new.end

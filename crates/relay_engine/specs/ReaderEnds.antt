@@ -5,6 +5,7 @@ use Rattle.pipe_core.specs.History.{Call}
 use Rattle.pipe_core.specs.Legal.{IsLegal}
 use Rattle.pipe_shared.specs.declared.options.Options.{Options}
 use Rattle.pipe_shared.specs.declared.faults.TryFault.{TryFault}
+use Rattle.pipe_shared.specs.Name.{Name}
 use Rattle.pipe_shared.specs.Log.{calls_of}
 use Rattle.pipe_shared.specs.Turns.{Refuses}
 use Rattle.pipe_shared.specs.Ends.{Reader}
@@ -18,7 +19,7 @@ pub record Aside : Type 0 where
 -- ---- a pipe for two threads
 
 -- A reading end is one of this pipe's.
-abbrev pub IsReaderOf : CellState Options → Reader → Type 0
+abbrev pub IsReaderOf : CellState Name → Reader → Type 0
 IsReaderOf pipe r = IsIdle pipe r.seat
 
 -- It stands for what it has seen, which is lawful.

@@ -1,9 +1,11 @@
 -- What a filler sees of the writing ends of both pipes.
 use Rattle.std.specs.Prelude.{ℕ, ◌≡◌, ◌≢◌, List, length, Some, None, IsNone}
 use Rattle.turn_cell.specs.Seat.{CellState, IsIdle}
-use Rattle.pipe_core.specs.History.{Call}
-use Rattle.pipe_core.specs.Legal.{IsLegal, seat_of}
+use Rattle.pipe_core.specs.History.{Call, seat_of, run_in}
+use Rattle.pipe_core.specs.Legal.{IsLegal}
 use Rattle.pipe_shared.specs.declared.options.Options.{Options}
+use Rattle.pipe_shared.specs.declared.faults.Full.{Full}
+use Rattle.pipe_shared.specs.Name.{Name}
 use Rattle.pipe_shared.specs.declared.faults.TryFault.{TryFault}
 use Rattle.pipe_shared.specs.Log.{calls_of}
 use Rattle.pipe_shared.specs.Turns.{Refuses}
@@ -13,7 +15,7 @@ use Rattle.pipe_shared.specs.Local.{Local, IsFull}
 use Rattle.relay_engine.specs.Filling.{Drafting}
 
 -- A writing end is one of this pipe's.
-abbrev pub IsWriterOf : CellState Options → Writer → Type 0
+abbrev pub IsWriterOf : CellState Name → Writer → Type 0
 IsWriterOf pipe w = IsIdle pipe w.seat
 
 -- It stands for what it has seen, which is lawful.
@@ -27,23 +29,23 @@ IsOthers call = seat_of call ≢ 0
 abbrev pub drafting : Writer → Drafting
 drafting w = record { draft = w.draft; room = length w.free; exchanges = w.seat.exchanges; reading = None }
 
-abbrev pub options_of : CellState Options → Writer → Options
-options_of pipe w = pipe.name
+abbrev pub options_of : CellState Name → Writer → Options
+options_of pipe w = pipe.name.options
 
 abbrev pub RefusesWriter : TryFault → Writer → Writer → Type 0
 RefusesWriter fault old new = Refuses fault old.seat new.seat
 
-abbrev pub FindsNoRoom : CellState Options → ℕ → ℕ → ℕ → Writer → Writer → Type 0
-FindsNoRoom pipe held draft capacity old new = FindsFull pipe.name 1 held draft capacity old new
+abbrev pub FindsNoRoom : CellState Name → Full → Writer → Writer → Type 0
+FindsNoRoom pipe full old new = FindsFull pipe.name.options 1 full old new
 
--- ---- a pipe for one thread, whose writer goes on
+-- ---- a pipe for one thread, whose writer goes on: it drafts in one segment
 
 abbrev pub GoesOn : Unit {0} → Local → Type 0
 GoesOn pipe p = IsNone p.pipe.control.ended
 
 abbrev pub local_drafting : Local → Drafting
 local_drafting p = record {
-  draft = p.pipe.bytes.draft;
+  draft = run_in 0 p.pipe.bytes.draft;
   room = length p.pipe.bytes.free;
   exchanges = 0;
   reading = Some (record { lent = p.pipe.control.lent; gone = p.pipe.control.gone });
@@ -52,5 +54,5 @@ local_drafting p = record {
 abbrev pub local_options : Unit {0} → Local → Options
 local_options pipe p = p.options
 
-abbrev pub IsLocalFull : Unit {0} → ℕ → ℕ → ℕ → Local → Local → Type 0
-IsLocalFull pipe held draft capacity old new = IsFull 1 held draft capacity old × (new ≡ old)
+abbrev pub IsLocalFull : Unit {0} → Full → Local → Local → Type 0
+IsLocalFull pipe full old new = IsFull 1 full old × (new ≡ old)

@@ -1,9 +1,9 @@
 //! What a drainer asks of the reading end of a pipe. It knows no more of it, and so not which pipe it runs on.
 
 ghost use Rattle.std.specs.Prelude.{◌≡◌, ◌≢◌, ◌≤◌, ℕ, List, ◌∷◌, length, Some, None, Option, IsSome, IfOk, IfErr};
-ghost use Rattle.pipe_core.specs.History.{Call, Read, Advance};
+ghost use Rattle.span_seq.specs.Sequence.{bytes};
+ghost use Rattle.pipe_core.specs.History.{Call, Read, Advance, seat_of};
 ghost use Rattle.pipe_core.specs.Reads.{reply_to_read};
-ghost use Rattle.pipe_core.specs.Legal.{seat_of};
 ghost use Rattle.pipe_core.specs.Lends.{lend};
 ghost use Rattle.pipe_core.specs.Standing.{MayAdvance};
 ghost use Rattle.pipe_shared.specs.declared.faults.TryFault.{TryFault};
@@ -13,11 +13,15 @@ ghost use Rattle.relay_engine.specs.ReaderEnds.{Aside};
 
 use pipe_core::ReadReply;
 use pipe_shared::TryFault;
+use span_seq::{Sequence, Spans};
 
 /// The reading end of a pipe, whose reader goes on.
 pub trait DrainPipe {
     /// What the end is an end of: nothing, where it is the whole pipe.
     type Pipe;
+
+    /// Where the spans of a lend lie.
+    type Lent: Spans;
 
     /// Its calls may be made on this pipe.
     ghost may_call: { Self.Pipe → Self → Type 0 };
@@ -54,10 +58,10 @@ pub trait DrainPipe {
         ensures aside { aside self.new ≡ aside self.old };
 
     /// The bytes that the last read lent, in place.
-    fn lent(&self) -> &[u8]
+    fn lent(&self) -> Sequence<'_, Self::Lent>
         requires { IsSome (lent self.now) }
-        ensures bytes { (h : List Call) → at self.now h → lend h ≡ Some result.now }
-        ensures len { lent self.now ≡ Some (length result.now) };
+        ensures bytes { (h : List Call) → at self.now h → lend h ≡ Some (bytes result) }
+        ensures len { lent self.now ≡ Some (length (bytes result)) };
 
     /// Gives up the first `c` of the lent bytes, of which the first `e` were examined, and ends the lend.
     fn advance(&mut self, pipe: &Self::Pipe, c: u64, e: u64) -> Result<(), TryFault>

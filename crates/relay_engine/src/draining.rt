@@ -3,6 +3,7 @@
 ghost use Rattle.std.specs.Prelude.{◌≡◌, ◌≤◌, ℕ, List, length, Some, None, IsSome};
 ghost use Rattle.pipe_core.specs.History.{Call};
 ghost use Rattle.pipe_core.specs.Legal.{IsLegal};
+ghost use Rattle.span_seq.specs.Sequence.{bytes};
 ghost use Rattle.pipe_core.specs.Lends.{lend};
 ghost use Rattle.relay_engine.specs.Drainer.{IsDrained, is_success as is_success_code};
 ghost use Rattle.relay_engine.specs.Passing.{IsKnown, added, end_at};
@@ -158,10 +159,10 @@ impl Draining {
     {
         let known = self.known;
         let lent = end.lent();
-        let len = lent.len() as u64;
+        let len = lent.len();
         let job = self.job;
         let gathering = &mut self.gathering;
-        match write_lent(&job, lent, known, is_success(ended), gathering, sink) {
+        match write_lent(&job, &lent, known, is_success(ended), gathering, sink) {
             Ok(drained) => {
                 self.add(
                     drained.passed,

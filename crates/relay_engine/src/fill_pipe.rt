@@ -1,10 +1,8 @@
 //! What a filler asks of the writing end of a pipe. It knows no more of it, and so not which pipe it runs on.
 
-ghost use Rattle.std.specs.Prelude.{◌≡◌, ◌≢◌, ◌<◌, ◌≤◌, ◌+◌, ◌^◌, ℕ, List, [], length, IfOk, IfErr};
-ghost use Rattle.pipe_core.specs.History.{Call, Commit};
+ghost use Rattle.std.specs.Prelude.{◌≡◌, ◌≢◌, ◌<◌, ◌≤◌, ◌+◌, ◌^◌, ℕ, List, [], ◌∷◌, length, IfOk, IfErr};
+ghost use Rattle.pipe_core.specs.History.{Call, Commit, bytes_of, seat_of};
 ghost use Rattle.pipe_core.specs.Flushes.{reply_to_commit};
-ghost use Rattle.pipe_core.specs.Legal.{seat_of};
-ghost use Rattle.pipe_core.specs.Pipe.{runs_of};
 ghost use Rattle.pipe_shared.specs.declared.options.Options.{Options};
 ghost use Rattle.pipe_shared.specs.declared.faults.TryFault.{TryFault};
 ghost use Rattle.relay_engine.specs.Filler.{written};
@@ -18,14 +16,9 @@ use pipe_shared::TryFault;
 
 /// Why no room was granted.
 #[derive(Clone, Copy, Debug, PartialEq, Eq)]
-pub enum NoRoom {
-    /// The pipe has no room for one byte: how many bytes are committed and not consumed, how many are drafted, and for how
-    /// many the pipe has room.
-    Full {
-        held: usize,
-        draft: usize,
-        capacity: usize,
-    },
+pub enum NoRoom<F> {
+    /// The pipe has no room for one byte, and tells what fills it.
+    Full(F),
     /// The call was refused.
     Refused(TryFault),
 }
@@ -34,6 +27,9 @@ pub enum NoRoom {
 pub trait FillPipe {
     /// What the end is an end of: nothing, where it is the whole pipe.
     type Pipe;
+
+    /// What it tells of a pipe that is full.
+    type Full: Copy;
 
     /// Its calls may be made on this pipe.
     ghost may_call: { Self.Pipe → Self → Type 0 };
@@ -53,11 +49,11 @@ pub trait FillPipe {
     /// Its call was refused so, and made no entry.
     ghost refuses: { TryFault → Self → Self → Type 0 };
 
-    /// Its call found that so much is held and drafted of a capacity that has no room for one byte more.
-    ghost is_full: { Self.Pipe → ℕ → ℕ → ℕ → Self → Self → Type 0 };
+    /// Its call found that the pipe has no room for one byte more, and tells this of it.
+    ghost is_full: { Self.Pipe → Self.Full → Self → Self → Type 0 };
 
     /// Grants a free part of at least one byte behind the draft.
-    fn room(&mut self, pipe: &Self::Pipe) -> Result<(), NoRoom>
+    fn room(&mut self, pipe: &Self::Pipe) -> Result<(), NoRoom<Self::Full>>
         requires may { may_call pipe.now self.old }
         ensures may { may_call pipe.now self.new }
         ensures at { (h : List Call) → at self.old h → HearsLater at others h self.new }
@@ -82,11 +78,11 @@ pub trait FillPipe {
     /// Commits the draft.
     fn commit(&mut self, pipe: &Self::Pipe) -> Result<FlushReply, TryFault>
         requires may { may_call pipe.now self.old }
-        requires total { (h : List Call) × at self.old h × (length (written h) + length (writer self.old).draft ≤ 2 ^ 62) }
+        requires total { (h : List Call) × at self.old h × (length (written h) + length (bytes_of (writer self.old).draft) ≤ 2 ^ 62) }
         ensures may { may_call pipe.now self.new }
         ensures at { IfOk result (λ reply. (h : List Call) → at self.old h →
-            CallsLater at others h (Commit (runs_of (writer self.old).draft))
-            (λ found. reply ≡ reply_to_commit (options pipe.now self.old).pause (options pipe.now self.old).resume found (runs_of (writer self.old).draft))
+            CallsLater at others h (Commit (writer self.old).draft)
+            (λ found. reply ≡ reply_to_commit (options pipe.now self.old).pause (options pipe.now self.old).resume found (writer self.old).draft)
             self.new) }
         ensures draft { IfOk result (λ _. (writer self.new).draft ≡ []) }
         ensures heard { IfErr result (λ _. (h : List Call) → at self.old h → HearsLater at others h self.new) }

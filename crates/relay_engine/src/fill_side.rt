@@ -31,7 +31,7 @@ pub fn fill<R: Wait, S: Source>(
         match filler.step(pipe, source) {
             FillStep::Moved { .. } => attempts = Attempts::new(),
             FillStep::Paused { .. } => filler.wait(rt, &mut attempts),
-            FillStep::Full { .. } => filler.wait(rt, &mut attempts),
+            FillStep::Full(_) => filler.wait(rt, &mut attempts),
             FillStep::Busy { .. } => attempts.wait_for_turn(),
             FillStep::Worn { .. } => attempts.wait_for_turn(),
             FillStep::Done(end) => {

@@ -13,26 +13,18 @@ use std::marker::Model;
 
 /// What a step did that was not refused.
 #[derive(Clone, Copy, Debug, PartialEq, Eq)]
-pub enum Filled {
+pub enum Filled<F> {
     /// So many bytes were committed, at least one.
-    Moved {
-        taken: usize,
-    },
+    Moved { taken: usize },
     /// Its flush was Pending. The bytes are committed.
-    Paused {
-        unexamined: u64,
-    },
+    Paused { unexamined: u64 },
     /// The pipe has no room. Nothing was read.
-    Full {
-        held: usize,
-        draft: usize,
-        capacity: usize,
-    },
+    Full(F),
     /// No more is to be taken, and the writer is to be completed for this reason.
     Ended(FillEnd),
 }
 
-impl Filled {
+impl<F: Copy> Filled<F> {
     ghost use Rattle.std.specs.Prelude.{◌≡◌};
     ghost use Rattle.relay_engine.specs.Filling.{moves_nothing};
 
@@ -43,7 +35,7 @@ impl Filled {
         match self {
             Filled::Moved { taken } => taken == 0,
             Filled::Paused { .. } => false,
-            Filled::Full { .. } => false,
+            Filled::Full(_) => false,
             Filled::Ended(_) => false,
         }
     }
@@ -98,7 +90,7 @@ impl Filling {
         pipe: &P::Pipe,
         end: &mut P,
         source: &mut S,
-    ) -> Result<Filled, TryFault>
+    ) -> Result<Filled<P::Full>, TryFault>
         requires may { P.may_call pipe.now end.old }
         requires holds { (h : List Call) × (bytes : List ℕ) × HasTaken P.at P.writer self.old end.old h bytes }
         ensures may { P.may_call pipe.now end.new }
@@ -132,7 +124,7 @@ impl Filling {
         pipe: &P::Pipe,
         end: &mut P,
         source: &mut S,
-    ) -> Result<Filled, TryFault>
+    ) -> Result<Filled<P::Full>, TryFault>
         requires may { P.may_call pipe.now end.old }
         requires settled { self.old.owed ≡ false }
         requires holds { (h : List Call) × (bytes : List ℕ) × HasTaken P.at P.writer self.old end.old h bytes }
@@ -150,19 +142,7 @@ impl Filling {
         let left = self.limit - self.taken;
         match end.room(pipe) {
             Err(NoRoom::Refused(fault)) => Err(fault),
-            Err(
-                NoRoom::Full {
-                    held,
-                    draft,
-                    capacity,
-                },
-            ) => {
-                Ok(Filled::Full {
-                    held,
-                    draft,
-                    capacity,
-                })
-            }
+            Err(NoRoom::Full(full)) => Ok(Filled::Full(full)),
             Ok(()) => {
                 match end.draft_from(source, left) {
                     Err(reason) => Ok(Filled::Ended(reason)),
@@ -178,7 +158,11 @@ impl Filling {
     }
 
     /// Commits what is drafted. Where the reader is there and doesn't hold the writer, it tells how much that was.
-    fn settle<P: FillPipe>(&mut self, pipe: &P::Pipe, end: &mut P) -> Result<Filled, TryFault>
+    fn settle<P: FillPipe>(
+        &mut self,
+        pipe: &P::Pipe,
+        end: &mut P,
+    ) -> Result<Filled<P::Full>, TryFault>
         requires may { P.may_call pipe.now end.old }
         requires owed { self.old.owed ≡ true }
         requires holds { (h : List Call) × (bytes : List ℕ) × HasTaken P.at P.writer self.old end.old h bytes }

@@ -12,7 +12,7 @@ use crate::gathering::{Gathering, Passed};
 use edge_core::{Failed, Sink};
 use frame_fronts::whole_front;
 use frame_grammar::{BadKind, Cut, Framing, Job, can_spell, next_frame, spell_head, spell_tail};
-use span_seq::{One, Sequence, Spans};
+use span_seq::{Sequence, Spans};
 
 /// Why no further frame is passed on.
 #[derive(Clone, Copy, Debug, PartialEq, Eq)]
@@ -43,30 +43,28 @@ pub struct Broken {
     pub written: u64,
 }
 
-/// Writes the frames of a lend that is one span.
-pub fn write_lent<K: Sink>(
+/// Writes the frames of a lend, and counts them where a call of the sink failed.
+pub fn write_lent<C: Spans, K: Sink>(
     job: &Job,
-    lent: &[u8],
+    lent: &Sequence<'_, C>,
     known: u64,
     at_end: bool,
     gathering: &mut Gathering,
     sink: &mut K,
 ) -> Result<Drained, Broken>
-    requires small { length lent.now ≤ 2 ^ 62 }
-    requires within { known ≤ length lent.now }
-    requires searched { job.now.input ≡ Framing.Line → IsNone (position is_line_feed (take known lent.now)) }
-    ensures drained { IfOk result (λ drained. Drains job.now lent.now at_end (K.state sink.old) drained (K.state sink.new)) }
-    ensures failed { IfErr result (λ broken. Breaks job.now lent.now at_end (K.state sink.old) broken (K.state sink.new)) }
+    requires small { length (bytes lent.now) ≤ 2 ^ 62 }
+    requires within { known ≤ length (bytes lent.now) }
+    requires searched { job.now.input ≡ Framing.Line → IsNone (position is_line_feed (take known (bytes lent.now))) }
+    ensures drained { IfOk result (λ drained. Drains job.now (bytes lent.now) at_end (K.state sink.old) drained (K.state sink.new)) }
+    ensures failed { IfErr result (λ broken. Breaks job.now (bytes lent.now) at_end (K.state sink.old) broken (K.state sink.new)) }
 {
-    let spans = One(lent);
-    let lent = Sequence::whole(&spans);
     gathering.begin();
-    match write_frames(job, &lent, known, at_end, gathering, sink) {
+    match write_frames(job, lent, known, at_end, gathering, sink) {
         Ok(drained) => Ok(drained),
         Err(Failed) => {
             let written = gathering.passed();
             Err(Broken {
-                frames: whole_frames(job, &lent, at_end, written),
+                frames: whole_frames(job, lent, at_end, written),
                 written: written.min(u128::from(u64::MAX)) as u64,
             })
         }

@@ -3,8 +3,8 @@
 ghost use Rattle.std.specs.Prelude.{◌≡◌, ◌≢◌, ℕ, List, [], ◌++◌};
 ghost use Rattle.std.specs.List.{AllByRecursion};
 ghost use mathlib.Core.List.{IsPrefix};
-ghost use Rattle.pipe_core.specs.History.{Call};
-ghost use Rattle.pipe_core.specs.Legal.{IsLegal, seat_of};
+ghost use Rattle.pipe_core.specs.History.{Call, seat_of};
+ghost use Rattle.pipe_core.specs.Legal.{IsLegal};
 ghost use Rattle.relay_engine.specs.Drainer.{DrainState, IsDrained, translated};
 
 use frame_grammar::Job;

@@ -3,9 +3,12 @@
 use crate::drain_pipe::DrainPipe;
 use pipe_core::ReadReply;
 use pipe_shared::{LocalPipe, TryFault};
+use span_seq::Sequence;
 
 impl DrainPipe for LocalPipe {
     type Pipe = ();
+
+    type Lent = LocalPipe;
 
     ghost use Rattle.relay_engine.specs.ReaderEnds.{IsAttended, aside_local, lent_local, no_exchanges};
     ghost use Rattle.relay_engine.specs.LocalEnds.{HoldsLocal, NoOthers, RefusesNone};
@@ -31,7 +34,7 @@ impl DrainPipe for LocalPipe {
         Ok(reply)
     }
 
-    fn lent(&self) -> &[u8] {
+    fn lent(&self) -> Sequence<'_, LocalPipe> {
         self.lent()
     }
 

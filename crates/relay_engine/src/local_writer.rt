@@ -4,11 +4,13 @@ use crate::fill_pipe::{FillPipe, NoRoom};
 use crate::reading::read_into;
 use edge_core::Source;
 use frame_model::FillEnd;
-use pipe_core::FlushReply;
-use pipe_shared::{LocalPipe, LocalRoomFault, TryFault};
+use pipe_core::{FlushReply, bytes_of_one_segment};
+use pipe_shared::{Full, LocalPipe, LocalRoomFault, TryFault, local_segments_have_a_byte};
 
 impl FillPipe for LocalPipe {
     type Pipe = ();
+
+    type Full = Full;
 
     ghost use Rattle.relay_engine.specs.WriterEnds.{GoesOn, IsLocalFull, local_drafting, local_options};
     ghost use Rattle.relay_engine.specs.LocalEnds.{HoldsLocal, NoOthers, RefusesNone};
@@ -29,23 +31,11 @@ impl FillPipe for LocalPipe {
 
     ghost others_write_nothing = { λ call is. absurd is };
 
-    fn room(&mut self, _pipe: &()) -> Result<(), NoRoom> {
-        self.has_segments();
+    fn room(&mut self, _pipe: &()) -> Result<(), NoRoom<Full>> {
+        local_segments_have_a_byte(self);
         match self.room(1) {
             Ok(_) => Ok(()),
-            Err(
-                LocalRoomFault::Full {
-                    held,
-                    draft,
-                    capacity,
-                },
-            ) => {
-                Err(NoRoom::Full {
-                    held,
-                    draft,
-                    capacity,
-                })
-            }
+            Err(LocalRoomFault::Full(full)) => Err(NoRoom::Full(full)),
             Err(LocalRoomFault::TooLarge { .. }) => unreachable!(),
         }
     }
@@ -61,6 +51,7 @@ impl FillPipe for LocalPipe {
     }
 
     fn commit(&mut self, _pipe: &()) -> Result<FlushReply, TryFault> {
+        bytes_of_one_segment();
         match self.flush() {
             Ok((reply, _)) => Ok(reply),
             Err(_) => unreachable!(),

@@ -11,6 +11,7 @@ use edge_core::Sink;
 use frame_grammar::Job;
 use pipe_shared::{
     Attempts, Pipe, ReaderDone, ReaderEnd, ReaderRefused, TryFault, others_are_heard_first,
+    reader_has_its_seat,
 };
 use std::marker::Model;
 use std::sync::Wait;
@@ -140,7 +141,7 @@ impl Drainer {
         ensures completes { CompletesFor ending self.old.draining end result self.new }
     {
         others_are_heard_first();
-        end.has_the_readers_seat();
+        reader_has_its_seat(&end);
         match pipe.try_complete_reader(end, ending.code()) {
             Ok((done, _)) => {
                 self.ending = None;
@@ -159,7 +160,7 @@ impl Drainer {
     // Waits for what the next step wants.
     fn wait_behind<R: Wait>(&self, rt: &R, step: DrainStep, attempts: &mut Attempts) {
         match (step, &self.end) {
-            (DrainStep::Idle { .. }, Some(end)) => end.wait(rt, attempts),
+            (DrainStep::Idle { .. }, Some(end)) => attempts.wait_for_writer(rt, end),
             (DrainStep::Busy { .. } | DrainStep::Worn { .. }, _) => attempts.wait_for_turn(),
             _ => *attempts = Attempts::new(),
         }

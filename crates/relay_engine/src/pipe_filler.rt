@@ -14,8 +14,8 @@ use core::mem::replace_with;
 use edge_core::Source;
 use frame_model::FillEnd;
 use pipe_shared::{
-    Attempts, FlushFault, Pipe, TryFault, WriterDone, WriterEnd, WriterRefused,
-    others_are_heard_first,
+    Attempts, FlushFault, Full, Pipe, TryFault, WriterDone, WriterEnd, WriterRefused,
+    done_writer_has_its_seat, others_are_heard_first, writer_has_its_seat,
 };
 use std::marker::Model;
 use std::sync::Wait;
@@ -39,15 +39,8 @@ pub enum FillStep {
         /// How many committed bytes the reader has not examined.
         unexamined: u64,
     },
-    /// The pipe has no room for one byte. Nothing was read.
-    Full {
-        /// How many bytes are committed and not consumed.
-        held: usize,
-        /// How many bytes are drafted.
-        draft: usize,
-        /// For how many bytes the pipe has room.
-        capacity: usize,
-    },
+    /// The pipe has no room for one byte, and tells what fills it. Nothing was read.
+    Full(Full),
     /// A call was refused as Busy, as `TryFault::Busy` says. Nothing is lost: the next step goes on there.
     Busy {
         word: u64,
@@ -120,7 +113,7 @@ impl Filler {
         ensures pipe { IsIdle pipe.now self.new.end.seat }
         ensures limit { self.new.limit ≡ self.old.limit }
         ensures done { self.new.done ≡ is_done result }
-        ensures steps { StepsOn pipe.now.name self.old (S.state source.old) result self.new (S.state source.new) }
+        ensures steps { StepsOn pipe.now.name.options self.old (S.state source.old) result self.new (S.state source.new) }
         ensures adds { Adds result (seen_by self.old.end) (seen_by self.new.end) }
         ensures draft { IfAnswered result (self.new.end.draft ≡ []) }
         ensures owed { OwesBy result self.new.owed }
@@ -141,10 +134,10 @@ impl Filler {
         }
     }
 
-    /// Waits for the reader, behind a step that was Paused or Full, as `WriterEnd::wait` does.
+    /// Waits for the reader, behind a step that was Paused or Full, as `Attempts::wait_for_reader` does.
     pub fn wait<R: Wait>(&self, rt: &R, attempts: &mut Attempts) {
         if let FillerEnd::Open(end) = &self.end {
-            end.wait(rt, attempts);
+            attempts.wait_for_reader(rt, end);
         }
     }
 
@@ -166,7 +159,7 @@ impl Filler {
         ensures pipe { IsIdle pipe.now self.new.end.seat }
         ensures limit { self.new.limit ≡ self.old.limit }
         ensures done { self.new.done ≡ false }
-        ensures takes { TakesOn pipe.now.name self.old (S.state source.old) result self.new (S.state source.new) }
+        ensures takes { TakesOn pipe.now.name.options self.old (S.state source.old) result self.new (S.state source.new) }
         ensures later { Later (OrCommits IsOthers) (seen_by self.old.end) (seen_by self.new.end) }
         ensures draft { IfOk result (λ step. IfAnswered step (self.new.end.draft ≡ [])) }
         ensures owed { IfOk result (λ step. OwesBy step self.new.owed) }
@@ -177,19 +170,7 @@ impl Filler {
         match self.fill(pipe, source) {
             Ok(Filled::Moved { taken }) => Ok(FillStep::Moved { taken }),
             Ok(Filled::Paused { unexamined }) => Ok(FillStep::Paused { unexamined }),
-            Ok(
-                Filled::Full {
-                    held,
-                    draft,
-                    capacity,
-                },
-            ) => {
-                Ok(FillStep::Full {
-                    held,
-                    draft,
-                    capacity,
-                })
-            }
+            Ok(Filled::Full(full)) => Ok(FillStep::Full(full)),
             Ok(Filled::Ended(reason)) => {
                 self.ending = Some(reason);
                 Err(reason)
@@ -200,12 +181,12 @@ impl Filler {
     }
 
     /// A step of the part that knows no pipe.
-    fn fill<S: Source>(&mut self, pipe: &Pipe, source: &mut S) -> Result<Filled, TryFault>
+    fn fill<S: Source>(&mut self, pipe: &Pipe, source: &mut S) -> Result<Filled<Full>, TryFault>
         requires going { self.old.done ≡ false }
         requires taking { self.old.ending ≡ None }
         requires pipe { IsIdle pipe.now self.old.end.seat }
         ensures pipe { IsIdle pipe.now self.new.end.seat }
-        ensures fills { FillsOn HasWritten IsOthers drafting RefusesWriter pipe.now.name (FindsNoRoom pipe.now) (filling_of self.old) self.old.end (S.state source.old) result (filling_of self.new) self.new.end (S.state source.new) (seen_by self.old.end) (all_of self.old.end) }
+        ensures fills { FillsOn HasWritten IsOthers drafting RefusesWriter pipe.now.name.options (FindsNoRoom pipe.now) (filling_of self.old) self.old.end (S.state source.old) result (filling_of self.new) self.new.end (S.state source.new) (seen_by self.old.end) (all_of self.old.end) }
         ensures later { Later (OrCommits IsOthers) (seen_by self.old.end) (seen_by self.new.end) }
         ensures draft { IfOk result (λ _. self.new.end.draft ≡ []) }
         ensures owed { IfOk result (λ filled. self.new.owed ≡ owes filled) }
@@ -262,10 +243,10 @@ fn try_to_close(pipe: &Pipe, end: WriterEnd, code: u32) -> (FillerEnd, Result<()
     ensures closes { Closes code (Open end) result.1 result.0 }
 {
     others_are_heard_first();
-    end.has_the_writers_seat();
+    writer_has_its_seat(&end);
     match pipe.try_complete(end, code) {
         Ok((done, _)) => {
-            done.has_the_writers_seat();
+            done_writer_has_its_seat(&done);
             (FillerEnd::Closed(done), Ok(()))
         }
         Err(WriterRefused { end: back, fault }) => {

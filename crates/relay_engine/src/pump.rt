@@ -1,15 +1,16 @@
 //! A relay on one thread.
 
-ghost use Rattle.std.specs.Prelude.{◌≡◌, ◌*◌, ◌^◌, ◌≤◌, ℕ, List, [], Some, None, IsNone, IfOk, OnErr};
+ghost use Rattle.std.specs.Prelude.{◌≡◌, ◌*◌, ◌^◌, ◌≤◌, ℕ, List, [], ◌∷◌, Some, None, IsNone, IfOk, OnErr};
 ghost use Rattle.frame_model.specs.Job.{IsInRange};
 ghost use Rattle.frame_model.specs.Spelling.{longest_frame};
 ghost use Rattle.relay_model.specs.Run.{IsReported};
-ghost use Rattle.pipe_core.specs.History.{Call};
+ghost use Rattle.pipe_core.specs.History.{Call, EndWriter};
+ghost use Rattle.pipe_core.specs.Answers.{Woke};
 ghost use Rattle.pipe_core.specs.Pipe.{HoldsFor};
 ghost use Rattle.pipe_core.specs.Standing.{AreThresholds};
 ghost use Rattle.pipe_core.specs.declared.reply.Wake.{Wake};
 ghost use Rattle.pipe_shared.specs.Options.{first_bad, room_of};
-ghost use Rattle.pipe_shared.specs.Local.{LocalCompletes};
+ghost use Rattle.pipe_shared.specs.Local.{LocalAnswers};
 ghost use Rattle.relay_engine.specs.Filling.{HasTaken};
 ghost use Rattle.relay_engine.specs.WriterEnds.{local_drafting};
 ghost use Rattle.relay_engine.specs.LocalEnds.{HoldsLocal};
@@ -122,7 +123,7 @@ fn fill_once<S: Source>(
             complete(pipe, code_of(end));
             Some(end)
         }
-        Ok(Filled::Moved { .. } | Filled::Paused { .. } | Filled::Full { .. }) => None,
+        Ok(Filled::Moved { .. } | Filled::Paused { .. } | Filled::Full(_)) => None,
         Err(_) => unreachable!(),
     }
 }
@@ -132,14 +133,13 @@ fn complete(pipe: &mut LocalPipe, code: u32)
     requires open { IsNone pipe.old.pipe.control.ended }
     requires settled { pipe.old.pipe.bytes.draft ≡ [] }
     requires small { pipe.old.pipe.control.committed ≤ 2 ^ 62 }
-    ensures completes { (wake : Wake) × LocalCompletes pipe.old pipe.old.pipe.bytes.draft code wake pipe.new }
+    ensures completes { (wake : Wake) × LocalAnswers pipe.old (EndWriter code ∷ []) (Woke wake) pipe.new }
     ensures options { pipe.new.options ≡ pipe.old.options }
     ensures draft { pipe.new.pipe.bytes.draft ≡ [] }
     ensures gone { pipe.new.pipe.control.gone ≡ pipe.old.pipe.control.gone }
     ensures lent { pipe.new.pipe.control.lent ≡ pipe.old.pipe.control.lent }
 {
-    match pipe.end_writer(code) {
-        Ok(_) => {}
-        Err(_) => unreachable!(),
-    }
+    let Ok(_) = pipe.end_writer(code) else {
+        unreachable!()
+    };
 }

@@ -2,13 +2,18 @@
 
 use crate::drain_pipe::DrainPipe;
 use pipe_core::ReadReply;
-use pipe_shared::{Pipe, ReaderEnd, TryFault, others_are_heard_first};
+use pipe_shared::{
+    Pipe, ReaderEnd, Reading, TryFault, others_are_heard_first, reader_has_its_seat,
+};
+use span_seq::Sequence;
 
 impl DrainPipe for ReaderEnd {
     type Pipe = Pipe;
 
+    type Lent = Reading;
+
     ghost use Rattle.std.specs.Prelude.{◌≢◌};
-    ghost use Rattle.pipe_core.specs.Legal.{seat_of};
+    ghost use Rattle.pipe_core.specs.History.{seat_of};
     ghost use Rattle.relay_engine.specs.ReaderEnds.{HasRead, IsReaderOf, RefusesReader, exchanges_of, lent_len, nothing_aside};
 
     ghost may_call = { IsReaderOf };
@@ -29,20 +34,20 @@ impl DrainPipe for ReaderEnd {
 
     fn read(&mut self, pipe: &Pipe) -> Result<ReadReply, TryFault> {
         others_are_heard_first();
-        self.has_the_readers_seat();
+        reader_has_its_seat(self);
         match pipe.try_read(self) {
             Ok((reply, _)) => Ok(reply),
             Err(fault) => Err(fault),
         }
     }
 
-    fn lent(&self) -> &[u8] {
+    fn lent(&self) -> Sequence<'_, Reading> {
         self.lent()
     }
 
     fn advance(&mut self, pipe: &Pipe, c: u64, e: u64) -> Result<(), TryFault> {
         others_are_heard_first();
-        self.has_the_readers_seat();
+        reader_has_its_seat(self);
         match pipe.try_advance(self, c, e) {
             Ok(_) => Ok(()),
             Err(fault) => Err(fault),

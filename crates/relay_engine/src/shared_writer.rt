@@ -5,10 +5,15 @@ use crate::reading::read_into;
 use edge_core::Source;
 use frame_model::FillEnd;
 use pipe_core::FlushReply;
-use pipe_shared::{FlushFault, Pipe, RoomFault, TryFault, WriterEnd, others_are_heard_first};
+use pipe_shared::{
+    FlushFault, Full, Pipe, RoomFault, TryFault, WriterEnd, others_are_heard_first,
+    segments_have_a_byte, writer_has_its_seat,
+};
 
 impl FillPipe for WriterEnd {
     type Pipe = Pipe;
+
+    type Full = Full;
 
     ghost use Rattle.relay_engine.specs.WriterEnds.{FindsNoRoom, HasWritten, IsOthers, IsWriterOf, RefusesWriter, drafting, options_of};
 
@@ -28,25 +33,13 @@ impl FillPipe for WriterEnd {
 
     ghost others_write_nothing = { λ call is. is };
 
-    fn room(&mut self, pipe: &Pipe) -> Result<(), NoRoom> {
+    fn room(&mut self, pipe: &Pipe) -> Result<(), NoRoom<Full>> {
         others_are_heard_first();
-        self.has_the_writers_seat();
-        pipe.has_segments();
+        writer_has_its_seat(self);
+        segments_have_a_byte(pipe);
         match pipe.try_room(self, 1) {
             Ok(_) => Ok(()),
-            Err(
-                RoomFault::Full {
-                    held,
-                    draft,
-                    capacity,
-                },
-            ) => {
-                Err(NoRoom::Full {
-                    held,
-                    draft,
-                    capacity,
-                })
-            }
+            Err(RoomFault::Full(full)) => Err(NoRoom::Full(full)),
             Err(RoomFault::Busy { word }) => Err(NoRoom::Refused(TryFault::Busy { word })),
             Err(RoomFault::TooLarge { .. }) => unreachable!(),
         }
@@ -64,7 +57,7 @@ impl FillPipe for WriterEnd {
 
     fn commit(&mut self, pipe: &Pipe) -> Result<FlushReply, TryFault> {
         others_are_heard_first();
-        self.has_the_writers_seat();
+        writer_has_its_seat(self);
         match pipe.try_flush(self) {
             Ok((reply, _)) => Ok(reply),
             Err(FlushFault::Busy { word }) => Err(TryFault::Busy { word }),

@@ -6,9 +6,9 @@ use Rattle.std.proofs.lemmas.Bool.{cases_Bool, eqb-true}
 use Rattle.std.proofs.lemmas.List.{reverse-append}
 use Rattle.std.proofs.lemmas.List.Elements.{All-cons, All-head, All-nil, All-tail}
 use Rattle.turn_cell.specs.History.{entries_of}
-use Rattle.pipe_core.specs.History.{Run, Call, Commit, EndWriter, Read, Advance, EndReader, CancelRead, CancelFlush, bytes_of, reader_end, writer_end}
+use Rattle.pipe_core.specs.History.{Run, Call, Commit, EndWriter, Read, Advance, EndReader, CancelRead, CancelFlush, bytes_of, reader_end, writer_end, seat_of}
 use Rattle.pipe_core.specs.Progress.{total}
-use Rattle.pipe_core.specs.Legal.{IsLegal, seat_of}
+use Rattle.pipe_core.specs.Legal.{IsLegal}
 use Rattle.pipe_core.proofs.OrderLemmas.{total_commit}
 use Rattle.pipe_shared.specs.Log.{calls_of}
 use Rattle.pipe_shared.proofs.StateLemmas.{calls_of-append}

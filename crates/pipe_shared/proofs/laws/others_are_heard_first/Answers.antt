@@ -1,11 +1,8 @@
-use Rattle.pipe_shared.proofs.HeardLemmas.{completed, made, refused, won}
+use Rattle.pipe_shared.proofs.HeardLemmas.{made, refused, won}
 use Rattle.pipe_shared.proofs.laws.others_are_heard_first.Goals as goal
 
 pub returns-clause-made : goal.returns-clause-made
 returns-clause-made c = made
-
-pub returns-clause-completed : goal.returns-clause-completed
-returns-clause-completed c = completed
 
 pub returns-clause-won : goal.returns-clause-won
 returns-clause-won c = won

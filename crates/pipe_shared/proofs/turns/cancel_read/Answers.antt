@@ -5,8 +5,8 @@ use Rattle.pipe_shared.proofs.turns.cancel_read.Goals as goal
 
 pub put-requires-clause-stands : goal.put-requires-clause-stands
 put-requires-clause-stands c =
-    stands_with c.args.cell.now c.args.seat.now c.take.new.seat c.in_ok-held.held _ _ _ _ _ c.in_ok-held.ensures.taken c.requires.end.numbered c.state_mut.ensures.state c.cancel_read-wake.ensures refl
+    stands_with c.args.cell.now c.args.seat.now c.take.new.seat c.in_ok-held.held _ _ 2 _ _ _ c.in_ok-held.ensures.taken c.requires.end.numbered (refl, tt) c.state_mut.ensures.state c.cancel_read-wake.ensures refl
 
 pub returns-clause-made : goal.returns-clause-made
 returns-clause-made c =
-    makes c.args.cell.now c.args.seat.now c.take.new.seat _ c.in_ok-held.held _ _ _ _ _ c.in_ok-held.ensures.taken c.requires.end.idle c.requires.end.numbered c.state_mut.ensures.state c.cancel_read-wake.ensures refl c.put.ensures.put
+    makes c.args.cell.now c.args.seat.now c.take.new.seat _ c.in_ok-held.held _ _ 2 _ _ _ c.in_ok-held.ensures.taken c.requires.end.idle c.requires.end.numbered (refl, tt) c.state_mut.ensures.state c.cancel_read-wake.ensures refl c.put.ensures.put

@@ -1,4 +1,5 @@
 -- The state stands for the history with the commit, and the seat has made it.
+use Rattle.std.proofs.Common.{refl, ap, length, arith}
 use Rattle.pipe_shared.proofs.TurnLemmas.{stands_with, makes}
 use Rattle.pipe_shared.proofs.HoldLemmas.{going, has_room, refuses_flush}
 use Rattle.pipe_shared.proofs.turns.commit.Goals as goal
@@ -12,13 +13,14 @@ commit-requires-clause-going g c =
 
 pub commit-requires-clause-room : goal.commit-requires-clause-room
 commit-requires-clause-room g c =
-    has_room c.args.cell.now c.args.seat.now c.take.new.seat c.in_ok-held.held _ c.in_ok-held.ensures.taken c.state_mut.ensures.state _ c.requires.room
+    let fits = has_room c.args.cell.now c.args.seat.now c.take.new.seat c.in_ok-held.held _ c.in_ok-held.ensures.taken c.state_mut.ensures.state _ c.requires.room in
+    omega (arith, fits, ap length c.draft.ensures.all)
 
 pub put-requires-clause-stands : goal.put-requires-clause-stands
 put-requires-clause-stands g c =
-    stands_with c.args.cell.now c.args.seat.now c.take.new.seat c.in_ok-held.held _ _ _ _ _ c.in_ok-held.ensures.taken c.requires.room.end.numbered c.state_mut.ensures.state c.in-Ok.ensures.answers c.requires.entry
+    stands_with c.args.cell.now c.args.seat.now c.take.new.seat c.in_ok-held.held _ _ 0 _ _ _ c.in_ok-held.ensures.taken c.requires.room.end.numbered (refl, tt) c.state_mut.ensures.state (c.in-Ok.ensures.answers c.args.part.now.draft c.draft.ensures.all) c.requires.entry
 
 pub returns-in-Ok-clause-made : goal.returns-in-Ok-clause-made
 returns-in-Ok-clause-made g c =
-    makes c.args.cell.now c.args.seat.now c.take.new.seat _ c.in_ok-held.held _ _ _ _ _ c.in_ok-held.ensures.taken c.requires.room.end.idle c.requires.room.end.numbered c.state_mut.ensures.state c.in-Ok.ensures.answers
+    makes c.args.cell.now c.args.seat.now c.take.new.seat _ c.in_ok-held.held _ _ 0 _ _ _ c.in_ok-held.ensures.taken c.requires.room.end.idle c.requires.room.end.numbered (refl, tt) c.state_mut.ensures.state (c.in-Ok.ensures.answers c.args.part.now.draft c.draft.ensures.all)
     c.requires.entry c.put.ensures.put

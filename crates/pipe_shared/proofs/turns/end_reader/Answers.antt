@@ -1,15 +1,16 @@
 -- The state stands for the history with the call, and the seat has made it.
+use Rattle.std.proofs.Common.{refl}
 use Rattle.pipe_shared.proofs.TurnLemmas.{stands_with, makes}
 use Rattle.pipe_shared.proofs.HoldLemmas.{attended}
 use Rattle.pipe_shared.proofs.turns.end_reader.Goals as goal
 
 pub put-requires-clause-stands : goal.put-requires-clause-stands
 put-requires-clause-stands g c =
-    stands_with c.args.cell.now c.args.seat.now c.take.new.seat c.in_ok-held.held _ _ _ _ _ c.in_ok-held.ensures.taken c.requires.attends.end.numbered c.state_mut.ensures.state c.end_reader-wake.ensures c.requires.entry
+    stands_with c.args.cell.now c.args.seat.now c.take.new.seat c.in_ok-held.held _ _ 1 _ _ _ c.in_ok-held.ensures.taken c.requires.attends.end.numbered (refl, tt) c.state_mut.ensures.state c.end_reader-wake.ensures c.requires.entry
 
 pub returns-clause-made : goal.returns-clause-made
 returns-clause-made g c =
-    makes c.args.cell.now c.args.seat.now c.take.new.seat _ c.in_ok-held.held _ _ _ _ _ c.in_ok-held.ensures.taken c.requires.attends.end.idle c.requires.attends.end.numbered c.state_mut.ensures.state c.end_reader-wake.ensures
+    makes c.args.cell.now c.args.seat.now c.take.new.seat _ c.in_ok-held.held _ _ 1 _ _ _ c.in_ok-held.ensures.taken c.requires.attends.end.idle c.requires.attends.end.numbered (refl, tt) c.state_mut.ensures.state c.end_reader-wake.ensures
     c.requires.entry c.put.ensures.put
 
 pub end_reader-wake-requires-clause-attended : goal.end_reader-wake-requires-clause-attended

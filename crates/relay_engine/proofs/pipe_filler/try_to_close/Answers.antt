@@ -1,5 +1,6 @@
 -- The completion of a writer that has drafted nothing.
-use Rattle.std.proofs.Common.{length, refl, ap, arith}
+use Rattle.std.proofs.Common.{List, length, refl, ap, arith}
+use Rattle.pipe_core.specs.History.{Run, bytes_of}
 use Rattle.relay_engine.proofs.EndingLemmas.{completes}
 use Rattle.relay_engine.proofs.WriterEndLemmas.{heard, never_too_much}
 use Rattle.relay_engine.proofs.pipe_filler.try_to_close.Goals as goal
@@ -7,18 +8,18 @@ use Rattle.relay_engine.proofs.pipe_filler.try_to_close.Goals as goal
 pub unreachable-requires : goal.unreachable-requires
 unreachable-requires c =
     let finds = rw c.in-TooMuch.is at c.in-Err.ensures.refused in
-    never_too_much _ _ c.args.end c.in-Err.field-0.end (c.others_are_heard_first.ensures.won 0 _ _ c.has_the_writers_seat.ensures finds.wins) finds
-    (_, (refl, c.requires.may.legal), omega (arith, c.requires.may.small, ap length c.requires.may.settled))
+    never_too_much _ _ c.args.end c.in-Err.field-0.end (c.others_are_heard_first.ensures.won 0 _ _ c.writer_has_its_seat.ensures finds.wins) finds
+    (_, (refl, c.requires.may.legal), omega (arith, c.requires.may.small, ap (λ (x : List Run). length (bytes_of x)) c.requires.may.settled))
 
 pub returns-in-Ok-clause-closes : goal.returns-in-Ok-clause-closes
 returns-in-Ok-clause-closes c =
-    completes _ _ _ c.args.end c.in-Ok.done c.requires.may (c.others_are_heard_first.ensures.completed 0 _ _ _ _ _ _ c.has_the_writers_seat.ensures c.in-Ok.ensures.made) c.in-Ok.ensures.made.lawful c.has_the_writers_seat-in-Ok.ensures
+    completes _ _ _ c.args.end c.in-Ok.done c.requires.may (c.others_are_heard_first.ensures.made 0 _ _ _ _ _ c.writer_has_its_seat.ensures c.in-Ok.ensures.made) c.in-Ok.ensures.made.lawful c.done_writer_has_its_seat.ensures
 
 pub returns-in-Worn-clause-closes : goal.returns-in-Worn-clause-closes
 returns-in-Worn-clause-closes c =
     let finds = rw c.in-Worn.is at c.in-Err.ensures.refused in (
       finds,
       c.in-Err.ensures.kept.0,
-      heard c.args.end c.in-Err.field-0.end (c.others_are_heard_first.ensures.won 0 _ _ c.has_the_writers_seat.ensures finds.wins) finds.wins.lawful.legal _ (refl, c.requires.may.legal),
+      heard c.args.end c.in-Err.field-0.end (c.others_are_heard_first.ensures.won 0 _ _ c.writer_has_its_seat.ensures finds.wins) finds.wins.lawful.legal _ (refl, c.requires.may.legal),
       omega (arith, ap (λ s. s.exchanges) finds.wins.after),
     )

@@ -8,7 +8,7 @@ invariant_of-self c =
     let may = rw (← c.self.view_is) at c.requires in
     (advances c.self.inside.marks c.args.c c.args.e _ _ _ may c.max-examined.ensures c.pause_lasts.ensures _ refl c.woken_since.ensures).0 c.self.invariant
 
-pub returns-clause-answers : goal.returns-clause-answers
-returns-clause-answers c =
+pub returns : goal.returns
+returns c =
     let may = rw (← c.self.view_is) at c.requires in
     rw (← c.self.view_is) (advances c.self.inside.marks c.args.c c.args.e _ _ _ may c.max-examined.ensures c.pause_lasts.ensures _ refl c.woken_since.ensures).1

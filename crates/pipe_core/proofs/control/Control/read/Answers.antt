@@ -9,8 +9,8 @@ invariant_of-self c =
     let no_lend = rw (← c.self.view_is) at c.requires.no_lend in
     (reads c.self.inside.marks _ _ _ _ attended no_lend c.reads_now-ready.ensures c.lent_where.ensures c.read_reply-reply.ensures _ refl c.woken_since.ensures).0 c.self.invariant
 
-pub returns-clause-answers : goal.returns-clause-answers
-returns-clause-answers c =
+pub returns : goal.returns
+returns c =
     let attended = rw (← c.self.view_is) at c.requires.attended in
     let no_lend = rw (← c.self.view_is) at c.requires.no_lend in
     rw (← c.self.view_is) (reads c.self.inside.marks _ _ _ _ attended no_lend c.reads_now-ready.ensures c.lent_where.ensures c.read_reply-reply.ensures _ refl c.woken_since.ensures).1

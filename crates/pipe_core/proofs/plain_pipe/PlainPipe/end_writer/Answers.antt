@@ -1,5 +1,9 @@
 -- The draft, where there is one, is committed before.
-use Rattle.std.proofs.Common.{refl, sym, ◌∙◌, arith}
+use Rattle.std.proofs.Common.{refl, sym, ap, subst, ◌∙◌, arith}
+use Rattle.std.specs.Prelude.{IsNone}
+use Rattle.pipe_core.specs.History.{run_in}
+use Rattle.pipe_core.specs.Pipe.{Pipe}
+use Rattle.pipe_core.proofs.RunLemmas.{run_in_bytes}
 use Rattle.pipe_core.proofs.PipeLemmas.{closes_alone, closes_behind, total_within}
 use Rattle.pipe_core.proofs.plain_pipe.PlainPipe.end_writer.Goals as goal
 
@@ -10,15 +14,20 @@ returns-then-draft_len-eq0-clause-too_much c =
     rw (← c.self.view_is) (λ e. absurd cc, λ more. absurd (omega (arith, fits, more.1, c.draft_len.ensures, c.if-draft_len-eq0.true)))
 
 pub returns-then-draft_len-eq0-clause-answers : goal.returns-then-draft_len-eq0-clause-answers
-returns-then-draft_len-eq0-clause-answers c =
+returns-then-draft_len-eq0-clause-answers c runs are =
     let p = c.self.inside in
-    rw (← c.self.view_is) (closes_alone (record { control = p.control; bytes = p.buffer }) _ p.buffer.draft c.args.code _ (sym c.draft_len.ensures ∙ c.if-draft_len-eq0.true) c.end_writer.ensures.answers refl)
+    let drafted = rw (← c.self.view_is) at are in
+    rw (← c.self.view_is) (closes_alone (record { control = p.control; bytes = p.buffer }) _ runs p.buffer.draft c.args.code _ drafted (sym c.draft_len.ensures ∙ c.if-draft_len-eq0.true) c.end_writer.ensures refl)
 
 pub returns-clause-answers : goal.returns-clause-answers
-returns-clause-answers c =
+returns-clause-answers c runs are =
     let p = c.self.inside in
     let m = c.self-2.inside in
-    let first = rw (← c.self-2.view_is, ← c.self.view_is) at c.in_ok-first.ensures.answers in
+    let drafted = rw (← c.self.view_is) at are in
+    let first = rw (← c.self-2.view_is, ← c.self.view_is) at (c.in_ok-first.ensures.answers runs are.all) in
     rw (← c.self.view_is, c.or.ensures)
-    (closes_behind (record { control = p.control; bytes = p.buffer }) (record { control = m.control; bytes = m.buffer }) _ p.buffer.draft c.args.code _ c.in_ok-first.first c.end_writer-second.result
-    (λ e. c.if-draft_len-eq0.false (c.draft_len.ensures ∙ e)) first c.end_writer-second.ensures.answers refl)
+    (closes_behind (record { control = p.control; bytes = p.buffer }) (record { control = m.control; bytes = m.buffer }) _ runs p.buffer.draft c.args.code _ c.in_ok-first.first c.end_writer-second.result
+    drafted (λ e. c.if-draft_len-eq0.false (c.draft_len.ensures ∙ e)) first c.end_writer-second.ensures refl)
+
+pub end_writer-second-requires : goal.end_writer-second-requires
+end_writer-second-requires c = rw (ap (λ (x : Pipe). x.control) c.self-2.view_is) (subst IsNone (sym (c.in_ok-first.ensures.answers (run_in 0 c.args.self.now.bytes.draft) (run_in_bytes 0 c.args.self.now.bytes.draft)).ended) c.requires)

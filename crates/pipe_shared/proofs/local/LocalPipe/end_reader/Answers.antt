@@ -1,5 +1,5 @@
 -- The call of the pipe inside, as it is seen.
-use Rattle.std.proofs.Common.{sym, ap, ◌∙◌, length}
+use Rattle.std.proofs.Common.{[], ◌∷◌, sym, ap, ◌∙◌, length}
 use Rattle.pipe_core.specs.History.{EndReader}
 use Rattle.pipe_shared.specs.Local.{Local}
 use Rattle.pipe_shared.proofs.LocalLemmas.{local_answers, local_end_reader, granted_len}
@@ -8,7 +8,7 @@ use Rattle.pipe_shared.proofs.local.LocalPipe.end_reader.Goals as goal
 pub returns-clause-answers : goal.returns-clause-answers
 returns-clause-answers c =
     let p = c.self.inside in
-    rw (← c.self.view_is) (local_answers p.options p.plain c.end_reader.new.self p.granted p.granted (EndReader c.args.code) _ c.self.invariant c.end_reader.ensures.answers)
+    rw (← c.self.view_is) (local_answers p.options p.plain c.end_reader.new.self p.granted p.granted (EndReader c.args.code ∷ []) _ c.self.invariant c.end_reader.ensures.answers)
 
 pub returns-clause-free : goal.returns-clause-free
 returns-clause-free c =

@@ -19,4 +19,4 @@ loop-preserved g c =
 
 pub returns-in-Ok-clause-made : goal.returns-in-Ok-clause-made
 returns-in-Ok-clause-made g c =
-    called_once c.args.self.now.name (Advance c.args.c c.args.e) c.args.r.now c.loop.r c.in-Ok.field-0 c.try_advance.new.r.seat c.loop.invariant.tried c.in-Ok.ensures.made
+    called_once c.args.self.now.name.options (Advance c.args.c c.args.e) c.args.r.now c.loop.r c.in-Ok.field-0 c.try_advance.new.r.seat c.loop.invariant.tried c.in-Ok.ensures.made

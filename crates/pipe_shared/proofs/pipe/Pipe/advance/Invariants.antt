@@ -10,5 +10,5 @@ abbrev pub invariant-loop : goal.invariant-loop
 invariant-loop g l = record {
   pipe : IsOf l.self l.r.seat;
   lent : l.r.lent ≡ l.fn.r.lent;
-  tried : Tried (TriesToEnd l.self.name (Advance l.c l.e)) waits_for_turn l.fn.r l.r;
+  tried : Tried (TriesToEnd l.self.name.options (Advance l.c l.e)) waits_for_turn l.fn.r l.r;
 }

@@ -7,5 +7,5 @@ use Rattle.pipe_shared.proofs.pipe.Pipe.complete.Given as goal
 abbrev pub invariant-loop : goal.invariant-loop
 invariant-loop g l = record {
   pipe : IsOf l.self l.end.seat;
-  tried : Tried (TriesCompletion l.self.name l.code) waits_to_complete l.initial.end l.end;
+  tried : Tried (TriesCompletion l.self.name.options l.code) waits_to_complete l.initial.end l.end;
 }

@@ -17,4 +17,4 @@ loop-preserved g c =
     }
 
 pub returns-in-Ok-clause-made : goal.returns-in-Ok-clause-made
-returns-in-Ok-clause-made g c = called_once c.args.self.now.name (EndReader c.args.code) c.args.r c.loop.end c.in-Ok.field-0-1 c.in-Ok.done c.loop.invariant.tried c.in-Ok.ensures.made
+returns-in-Ok-clause-made g c = called_once c.args.self.now.name.options (EndReader c.args.code) c.args.r c.loop.end c.in-Ok.field-0-1 c.in-Ok.done c.loop.invariant.tried c.in-Ok.ensures.made

@@ -8,5 +8,5 @@ use Rattle.pipe_shared.proofs.pipe.Pipe.complete_reader.Given as goal
 abbrev pub invariant-loop : goal.invariant-loop
 invariant-loop g l = record {
   pipe : IsOf l.self l.end.seat;
-  tried : Tried (TriesToEnd l.self.name (EndReader l.code)) waits_for_turn l.initial.end l.end;
+  tried : Tried (TriesToEnd l.self.name.options (EndReader l.code)) waits_for_turn l.initial.end l.end;
 }

@@ -3,7 +3,7 @@ use Rattle.std.proofs.Common.{refl, ap, ◌∙◌, length, Ok, Err}
 use Rattle.pipe_core.specs.declared.reply.FlushReply.TheVariants.{Ready, Pending}
 use Rattle.pipe_shared.specs.declared.faults.FlushFault.TheVariants.{Busy, Worn, TooMuch}
 use Rattle.pipe_shared.specs.Waiting.{untried, tried}
-use Rattle.pipe_shared.proofs.WaitingLemmas.{flushes_on, same_free, refused_flush, not_yet, as_before, too_much}
+use Rattle.pipe_shared.proofs.WaitingLemmas.{flushes_on, same_free, refused_flush, not_yet, as_before}
 use Rattle.pipe_shared.proofs.pipe.Pipe.flush.Goals as goal
 
 pub loop-init : goal.loop-init
@@ -40,33 +40,38 @@ pub returns-in-Ok-Ready-default-clause-flushes : goal.returns-in-Ok-Ready-defaul
 returns-in-Ok-Ready-default-clause-flushes g c =
     let h = c.in-Ok-Ready-default in
     let made = rw h.field-0-0-is at h.ensures.made in
-    flushes_on c.args.self.now.name c.args.w.now c.loop.w c.try_flush.new.w (Ready h.canceled h.gone) h.field-0-1 c.loop.invariant.tried made h.ensures.draft h.ensures.free
+    flushes_on c.args.self.now.name.options c.args.w.now c.loop.w c.try_flush.new.w (Ready h.canceled h.gone) h.field-0-1 c.loop.invariant.tried made h.ensures.draft h.ensures.free
 
 pub returns-in-Ok-Ready-default-clause-free : goal.returns-in-Ok-Ready-default-clause-free
 returns-in-Ok-Ready-default-clause-free g c =
     let h = c.in-Ok-Ready-default in
     let made = rw h.field-0-0-is at h.ensures.made in
-    same_free c.args.self.now.name c.args.w.now c.loop.w c.try_flush.new.w (Ready h.canceled h.gone) h.field-0-1 c.loop.invariant.tried made h.ensures.draft h.ensures.free
+    same_free c.args.self.now.name.options c.args.w.now c.loop.w c.try_flush.new.w (Ready h.canceled h.gone) h.field-0-1 c.loop.invariant.tried made h.ensures.draft h.ensures.free
 
 pub returns-in-Err-TooMuch-clause-free : goal.returns-in-Err-TooMuch-clause-free
 returns-in-Err-TooMuch-clause-free g c =
     let h = c.in-Err-TooMuch in
     let refused = rw h.field-0-is at h.ensures.refused in
-    let before = not_yet c.args.self.now.name h.total c.args.w.now c.loop.w c.try_flush.new.w c.loop.invariant.tried refused in
+    let before = not_yet c.args.self.now.name.options h.total c.args.w.now c.loop.w c.try_flush.new.w c.loop.invariant.tried refused in
     ap length h.ensures.kept.1 ∙ ap length before.free
-
-pub returns-in-Err-TooMuch-clause-too_much : goal.returns-in-Err-TooMuch-clause-too_much
-returns-in-Err-TooMuch-clause-too_much g c =
-    let h = c.in-Err-TooMuch in
-    let refused = rw h.field-0-is at h.ensures.refused in
-    let before = not_yet c.args.self.now.name h.total c.args.w.now c.loop.w c.try_flush.new.w c.loop.invariant.tried refused in
-    too_much (length c.loop.w.draft) h.total c.loop.w.seat c.try_flush.new.w.seat c.args.w.now.draft refused (ap length before.draft)
 
 pub returns-in-Err-TooMuch-clause-kept : goal.returns-in-Err-TooMuch-clause-kept
 returns-in-Err-TooMuch-clause-kept g c =
     let h = c.in-Err-TooMuch in
     let refused = rw h.field-0-is at h.ensures.refused in
-    let before = not_yet c.args.self.now.name h.total c.args.w.now c.loop.w c.try_flush.new.w c.loop.invariant.tried refused in
+    let before = not_yet c.args.self.now.name.options h.total c.args.w.now c.loop.w c.try_flush.new.w c.loop.invariant.tried refused in
     let last = refused_flush (TooMuch h.total) c.loop.w c.try_flush.new.w refused (record { draft = h.ensures.kept.0; free = h.ensures.kept.1 }) in
     let all = as_before c.args.w.now c.loop.w c.try_flush.new.w before last in
     (all.draft, all.free, all.own)
+
+pub returns-in-Ok-Ready-default-clause-at_last : goal.returns-in-Ok-Ready-default-clause-at_last
+returns-in-Ok-Ready-default-clause-at_last g c =
+    let h = c.in-Ok-Ready-default in
+    let made = rw h.field-0-0-is at h.ensures.made in
+    (h.field-0-1, record { before = c.loop.w; tried = c.loop.invariant.tried; last = (made, h.ensures.draft, h.ensures.free); settled = refl })
+
+pub returns-in-Err-TooMuch-clause-at_last : goal.returns-in-Err-TooMuch-clause-at_last
+returns-in-Err-TooMuch-clause-at_last g c =
+    let h = c.in-Err-TooMuch in
+    let refused = rw h.field-0-is at h.ensures.refused in
+    record { before = c.loop.w; tried = c.loop.invariant.tried; last = (refused, record { draft = h.ensures.kept.0; free = h.ensures.kept.1 }); settled = refl }

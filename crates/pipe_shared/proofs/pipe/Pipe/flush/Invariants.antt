@@ -7,5 +7,5 @@ use Rattle.pipe_shared.proofs.pipe.Pipe.flush.Given as goal
 abbrev pub invariant-loop : goal.invariant-loop
 invariant-loop g l = record {
   pipe : IsOf l.self l.w.seat;
-  tried : Tried (TriesFlush l.self.name) waits_to_flush l.fn.w l.w;
+  tried : Tried (TriesFlush l.self.name.options) waits_to_flush l.fn.w l.w;
 }

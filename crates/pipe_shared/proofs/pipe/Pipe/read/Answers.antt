@@ -13,7 +13,7 @@ pub loop-preserved-in-Ok-Pending-default : goal.loop-preserved-in-Ok-Pending-def
 loop-preserved-in-Ok-Pending-default g c =
     let h = c.in-Ok-Pending-default in
     let made = rw h.field-0-0-is at h.ensures.made in
-    let len = read_lends c.args.self.now.name c.loop.r.seat c.try_read.new.r.seat (Pending h.field-0-0-0) h.field-0-1 made c.try_read.new.r.lent h.ensures.lent in
+    let len = read_lends c.args.self.now.name.options c.loop.r.seat c.try_read.new.r.seat (Pending h.field-0-0-0) h.field-0-1 made c.try_read.new.r.lent h.ensures.lent in
     record {
       pipe = h.ensures.pipe.0;
       no_lend = nothing_lent c.try_read.new.r.lent (Pending h.field-0-0-0) len refl;
@@ -33,5 +33,5 @@ pub returns-in-Ok-Ready-default-clause-reads : goal.returns-in-Ok-Ready-default-
 returns-in-Ok-Ready-default-clause-reads g c =
     let h = c.in-Ok-Ready-default in
     let made = rw h.field-0-0-is at h.ensures.made in
-    reads_on c.args.self.now.name c.args.r.now c.try_read.new.r (Ready h.canceled h.ended h.len) h.field-0-1
+    reads_on c.args.self.now.name.options c.args.r.now c.try_read.new.r (Ready h.canceled h.ended h.len) h.field-0-1
     (record { before = c.loop.r; tried = c.loop.invariant.tried; last = (made, h.ensures.lent); settled = refl })

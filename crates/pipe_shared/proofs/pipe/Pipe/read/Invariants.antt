@@ -9,5 +9,5 @@ abbrev pub invariant-loop : goal.invariant-loop
 invariant-loop g l = record {
   pipe : IsOf l.self l.r.seat;
   no_lend : IsNone l.r.lent;
-  tried : Tried (TriesRead l.self.name) waits_to_read l.fn.r l.r;
+  tried : Tried (TriesRead l.self.name.options) waits_to_read l.fn.r l.r;
 }

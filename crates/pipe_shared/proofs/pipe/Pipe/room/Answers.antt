@@ -13,7 +13,7 @@ loop-preserved-in-Err-Full g c =
     let h = c.in-Err-Full in
     record {
       pipe = c.try_room.ensures.pipe.0;
-      tried = tried c.loop.w c.try_room.new.w (Err (Full h.field-0-0 h.field-0-1 h.field-0-2)) c.loop.invariant.tried (rw h.field-0-is at h.ensures.refused) refl;
+      tried = tried c.loop.w c.try_room.new.w (Err (Full h.field-0-0)) c.loop.invariant.tried (rw h.field-0-is at h.ensures.refused) refl;
     }
 
 pub loop-preserved : goal.loop-preserved
@@ -25,9 +25,9 @@ loop-preserved g c =
     }
 
 pub returns-in-Ok-clause-draft : goal.returns-in-Ok-clause-draft
-returns-in-Ok-clause-draft g c = c.in-Ok.ensures.granted.draft ∙ (room_tried c.args.self.now.name (max c.args.hint 1) c.args.w.now c.loop.w c.loop.invariant.tried).0
+returns-in-Ok-clause-draft g c = c.in-Ok.ensures.granted.draft ∙ (room_tried c.args.self.now.name.options (max c.args.hint 1) c.args.w.now c.loop.w c.loop.invariant.tried).0
 
 pub returns-in-Ok-clause-own : goal.returns-in-Ok-clause-own
 returns-in-Ok-clause-own g c =
-    granted_own c.args.self.now.name (max c.args.hint 1) c.in-Ok.granted c.loop.w c.try_room.new.w c.in-Ok.ensures.granted
-    ∙ (room_tried c.args.self.now.name (max c.args.hint 1) c.args.w.now c.loop.w c.loop.invariant.tried).1
+    granted_own c.args.self.now.name.options (max c.args.hint 1) c.in-Ok.granted c.loop.w c.try_room.new.w c.in-Ok.ensures.granted
+    ∙ (room_tried c.args.self.now.name.options (max c.args.hint 1) c.args.w.now c.loop.w c.loop.invariant.tried).1

@@ -8,5 +8,5 @@ use Rattle.pipe_shared.proofs.pipe.Pipe.room.Given as goal
 abbrev pub invariant-loop : goal.invariant-loop
 invariant-loop g l = record {
   pipe : IsOf l.self l.w.seat;
-  tried : Tried (TriesRoom l.self.name (max l.hint 1)) waits_for_room l.fn.w l.w;
+  tried : Tried (TriesRoom l.self.name.options (max l.hint 1)) waits_for_room l.fn.w l.w;
 }

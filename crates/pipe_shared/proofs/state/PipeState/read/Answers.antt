@@ -1,8 +1,7 @@
 -- What the pipe lends behind the read is the lend of the history with the read.
 use Rattle.std.proofs.Common.{◌∷◌}
 use Rattle.pipe_core.specs.History.{Read}
-use Rattle.pipe_shared.specs.Log.{calls_of}
 use Rattle.pipe_shared.proofs.state.PipeState.read.Goals as goal
 
 pub returns-clause-lent : goal.returns-clause-lent
-returns-clause-lent c h k = c.copy_lent.ensures.lent (Read ∷ calls_of h) (c.read-reply.ensures.answers.stands (calls_of h) k.stands)
+returns-clause-lent c h k = c.copy_lent.ensures.lent (Read ∷ h) (c.read-reply.ensures.answers.stands h k.plain)

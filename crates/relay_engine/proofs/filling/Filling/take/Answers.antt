@@ -20,7 +20,7 @@ returns-in-Err-Refused-clause-fills g c h bytes t =
 
 pub returns-in-Err-Full-clause-fills : goal.returns-in-Err-Full-clause-fills
 returns-in-Err-Full-clause-fills g c h bytes t =
-    found_full _ _ _ _ _ _ _ _ _ _ _ _ _ _ c.in-Err-Full.field-0-is c.in-Err-Full.ensures.refused h bytes
+    found_full _ _ _ _ _ _ _ _ _ _ _ _ c.in-Err-Full.field-0-is c.in-Err-Full.ensures.refused h bytes
     (kept g.P.FillPipe.at g.P.FillPipe.others g.P.FillPipe.writer g.met.P.FillPipe.others_write_nothing _ _ _ c.in-Err-Full.ensures.draft c.in-Err-Full.ensures.at h bytes t)
 
 pub returns-in-Err-clause-fills : goal.returns-in-Err-clause-fills

@@ -1,6 +1,6 @@
 -- The draft ends further on.
 use Rattle.pipe_shared.proofs.RoomLemmas.{told}
-use Rattle.pipe_shared.proofs.room.DraftRoom.tell.Goals as goal
+use Rattle.pipe_shared.proofs.parts.Writing.tell.Goals as goal
 
 pub returns : goal.returns
 returns c =

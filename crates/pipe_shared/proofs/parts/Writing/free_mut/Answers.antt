@@ -1,7 +1,7 @@
 -- What the borrower writes stands behind the draft.
 use Rattle.std.proofs.Common.{refl}
 use Rattle.pipe_shared.proofs.RoomLemmas.{lent_free}
-use Rattle.pipe_shared.proofs.room.DraftRoom.free_mut.Goals as goal
+use Rattle.pipe_shared.proofs.parts.Writing.free_mut.Goals as goal
 
 pub returns : goal.returns
 returns c =

@@ -1,22 +1,25 @@
-//! The buffers of the two ends.
+//! The parts of the two ends that hold their bytes.
 
-ghost use Rattle.std.specs.Prelude.{◌≡◌, ◌≤◌, ◌+◌, [], ◌++◌, length, take, drop, is_some, Some, None, IsSome, IfOk};
+ghost use Rattle.std.specs.Prelude.{◌≡◌, ◌≤◌, ◌+◌, ◌^◌, [], ◌++◌, length, take, drop, is_some, Some, None, IsSome, IfOk};
 ghost use Rattle.std.specs.Borrow.{sem};
+ghost use Rattle.span_seq.specs.Sequence.{bytes};
+ghost use Rattle.pipe_core.specs.History.{bytes_of, AreRunsOf};
 ghost use Rattle.pipe_shared.specs.Rooms.{with_told};
 ghost use Rattle.pipe_shared.specs.Lending.{LendsGranted};
 
+use span_seq::{Sequence, Spans};
 use std::alloc::{AllocError, Global};
 use std::marker::Model;
 
 /// The writer's draft, and behind it the free part that was granted.
 #[derive(Debug, Drop)]
-pub struct DraftRoom {
+pub struct Writing {
     room: Vec<u8>,
     drafted: usize,
     granted: usize,
 }
 
-impl Model for DraftRoom {
+impl Model for Writing {
     ghost use Rattle.std.specs.Prelude.{◌≤◌, length};
     ghost use Rattle.pipe_shared.specs.Rooms.{Drafted, drafted_in};
 
@@ -27,12 +30,12 @@ impl Model for DraftRoom {
     ghost invariant = { λ d. (d.drafted ≤ d.granted) × (d.granted ≤ length d.room.items) };
 }
 
-impl DraftRoom {
+impl Writing {
     // A room of so many bytes, with nothing drafted or granted.
-    pub fn make(alloc: Global, size: usize) -> Result<DraftRoom, AllocError>
+    pub fn make(alloc: Global, size: usize) -> Result<Writing, AllocError>
         ensures { IfOk result (λ d. d ≡ record { draft = []; free = []; size = size }) }
     {
-        Ok(DraftRoom {
+        Ok(Writing {
             room: vec![in alloc; 0u8; size]?,
             drafted: 0,
             granted: 0,
@@ -41,14 +44,14 @@ impl DraftRoom {
 
     // The draft.
     pub fn draft(&self) -> &[u8]
-        ensures { result.now ≡ self.now.draft }
+        ensures { AreRunsOf self.now.draft result.now }
     {
         &self.room[..self.drafted]
     }
 
     // How long the draft is.
     pub fn draft_len(&self) -> usize
-        ensures { result ≡ length self.now.draft }
+        ensures { result ≡ length (bytes_of self.now.draft) }
     {
         self.drafted
     }
@@ -87,7 +90,7 @@ impl DraftRoom {
 
     // The free part is now so long.
     pub fn grant(&mut self, n: usize)
-        requires { length self.old.draft + n ≤ self.old.size }
+        requires { length (bytes_of self.old.draft) + n ≤ self.old.size }
         ensures draft { self.new.draft ≡ self.old.draft }
         ensures free { length self.new.free ≡ n }
         ensures size { self.new.size ≡ self.old.size }
@@ -108,51 +111,70 @@ impl DraftRoom {
 
 /// The reader's copy of what is lent.
 #[derive(Debug, Drop)]
-pub struct LendRoom {
+pub struct Reading {
     room: Vec<u8>,
     lent: Option<usize>,
 }
 
-impl Model for LendRoom {
-    ghost use Rattle.std.specs.Prelude.{◌≤◌, length, IfSome};
+impl Model for Reading {
+    ghost use Rattle.std.specs.Prelude.{◌≤◌, ◌^◌, length, IfSome};
     ghost use Rattle.pipe_shared.specs.Rooms.{Lent, lent_in};
 
     ghost Value = { Lent };
 
     ghost view = { λ l. lent_in l.room.items l.lent };
 
-    ghost invariant = { λ l. IfSome l.lent (λ n. n ≤ length l.room.items) };
+    ghost invariant = { λ l. IfSome l.lent (λ n. n ≤ length l.room.items) × (length l.room.items ≤ 2 ^ 62) };
 }
 
-impl LendRoom {
+// The lend is one span, which is empty where none stands.
+impl Spans for Reading {
+    ghost use Rattle.std.specs.Prelude.{◌∷◌, [], unwrap_or};
+
+    ghost spans = { λ l. unwrap_or l.bytes [] ∷ [] };
+
+    #[inline]
+    fn count(&self) -> usize {
+        1
+    }
+
+    #[inline]
+    fn span(&self, _index: usize) -> &[u8] {
+        let len = self.lent.unwrap_or(0);
+        &self.room[..len]
+    }
+}
+
+impl Reading {
     // A room of so many bytes, with nothing lent.
-    pub fn make(alloc: Global, size: usize) -> Result<LendRoom, AllocError>
+    pub(crate) fn make(alloc: Global, size: usize) -> Result<Reading, AllocError>
+        requires { size ≤ 2 ^ 62 }
         ensures { IfOk result (λ l. l ≡ record { bytes = None; size = size }) }
     {
-        Ok(LendRoom {
+        Ok(Reading {
             room: vec![in alloc; 0u8; size]?,
             lent: None,
         })
     }
 
     // Whether a lend stands.
-    pub fn is_lending(&self) -> bool
+    pub(crate) fn is_lending(&self) -> bool
         ensures { result ≡ is_some self.now.bytes }
     {
         self.lent.is_some()
     }
 
     // What is lent.
-    pub fn lent(&self) -> &[u8]
+    pub(crate) fn lent(&self) -> Sequence<'_, Reading>
         requires { IsSome self.now.bytes }
-        ensures { self.now.bytes ≡ Some result.now }
+        ensures { self.now.bytes ≡ Some (bytes result) }
     {
-        let len = self.lent.unwrap_or(0);
-        &self.room[..len]
+        let _ = &self.room;
+        Sequence::whole(self)
     }
 
     // A copy of these bytes is lent.
-    pub fn lend(&mut self, bytes: &[u8])
+    pub(crate) fn lend(&mut self, bytes: &[u8])
         requires { length bytes.now ≤ self.old.size }
         ensures { self.new ≡ record { bytes = Some bytes.now; size = self.old.size } }
     {
@@ -161,7 +183,7 @@ impl LendRoom {
     }
 
     // The lend ends.
-    pub fn end(&mut self)
+    pub(crate) fn end(&mut self)
         ensures { self.new ≡ record { bytes = None; size = self.old.size } }
     {
         self.lent = None;

@@ -1,7 +1,7 @@
 -- The copy is the front of the room.
 use Rattle.std.proofs.Common.{ap, ◌∙◌, ◌++◌, drop, length}
 use Rattle.pipe_shared.proofs.RoomLemmas.{lends_copy}
-use Rattle.pipe_shared.proofs.room.LendRoom.lend.Goals as goal
+use Rattle.pipe_shared.proofs.parts.Reading.lend.Goals as goal
 
 pub returns : goal.returns
 returns c =
