@@ -5,8 +5,8 @@ use Rattle.frame_model.specs.declared.job.Job.{Job}
 use Rattle.frame_model.specs.declared.ending.FillEnd.{FillEnd}
 use Rattle.frame_model.specs.declared.ending.Report.{Report}
 use Rattle.frame_model.specs.Ending.{outcome_of}
-use Rattle.pipe_shared.specs.declared.options.Options.{Options}
 use Rattle.turn_cell.specs.Seat.{CellState, new_seat}
+use Rattle.pipe_shared.specs.Name.{Name}
 use Rattle.pipe_shared.specs.Turns.{Seat}
 use Rattle.pipe_shared.specs.Ends.{Reader, Writer}
 use Rattle.relay_engine.specs.declared.drain_end.DrainEnd.{DrainEnd}
@@ -23,8 +23,8 @@ pub record HasPumped (job : Job) (report : Report) (writer reader : Seat) (sourc
   pub outcome : report.outcome ≡ outcome_of (is_sink_fault draining) filling (verdict_for draining)
 
 -- the writer and the reader of a new pipe
-abbrev pub new_writer : CellState Options → Writer
+abbrev pub new_writer : CellState Name → Writer
 new_writer cell = record { seat = new_seat cell 0; draft = []; free = [] }
 
-abbrev pub new_reader : CellState Options → Reader
+abbrev pub new_reader : CellState Name → Reader
 new_reader cell = record { seat = new_seat cell 1; lent = None }

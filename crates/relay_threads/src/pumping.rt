@@ -56,7 +56,7 @@ pub fn pump<R: Wait + Threads + Sync, S: Source + Send, K: Sink + Send>(
     job: &Job,
 ) -> Result<Pumped, AllocError>
     requires { IsInRange job.now }
-    ensures options { IfOk result (λ done. done.pipe.name ≡ options_for job.now) }
+    ensures options { IfOk result (λ done. done.pipe.name.options ≡ options_for job.now) }
     ensures writer { IfOk result (λ done. IsOf done.pipe done.writer) }
     ensures reader { IfOk result (λ done. IsOf done.pipe done.reader) }
     ensures canceller { IfOk result (λ done. IsOf done.pipe done.canceller) }
@@ -109,7 +109,7 @@ pub fn settle(done: Pumped) -> Report
 /// The pipe of a relay. Want of memory is the one refusal.
 fn make_pipe(alloc: Global, job: &Job) -> Result<Made, AllocError>
     requires { IsInRange job.now }
-    ensures pipe { IfOk result (λ made. made.0.name ≡ options_for job.now) }
+    ensures pipe { IfOk result (λ made. made.0.name.options ≡ options_for job.now) }
     ensures writer { IfOk result (λ made. made.1 ≡ new_writer made.0) }
     ensures reader { IfOk result (λ made. made.2 ≡ new_reader made.0) }
     ensures canceller { IfOk result (λ made. made.3 ≡ new_seat made.0 2) }
