@@ -38,7 +38,7 @@ pub record IsOrdered (h : List Call) : Type 0 where
   pub lent_in : (bytes : List ℕ) → lend h ≡ Some bytes → consumed h + length bytes ≤ length (total h)
   pub attended : (bytes : List ℕ) → lend h ≡ Some bytes → IsNone (reader_end h)
 
-read_lends : (b : Bool) (bytes lent : List ℕ) → cond b (Some bytes) None ≡ Some lent → lent ≡ bytes
+pub read_lends : (b : Bool) (bytes lent : List ℕ) → cond b (Some bytes) None ≡ Some lent → lent ≡ bytes
 read_lends true bytes lent e = cc
 read_lends false bytes lent e = absurd cc
 

@@ -15,7 +15,7 @@ use Rattle.pipe_core.specs.Answers.{Answer, Flushed, Woke}
 use Rattle.pipe_core.specs.Standing.{MayAdvance, Thresholds, thresholds_of, ControlAnswers}
 use Rattle.pipe_core.specs.Bytes.{Bytes, capacity_of, settled, with_committed}
 use Rattle.pipe_core.specs.Pipe.{Pipe, kept, HoldsFor, Made, made_of, PipeAnswers}
-use Rattle.pipe_core.proofs.OrderLemmas.{ordered, total_commit}
+use Rattle.pipe_core.proofs.OrderLemmas.{ordered, read_lends, total_commit}
 
 given_up : (b : Bool) (c n : ℕ) (xs : List ℕ) → drop c (cond b (drop n xs) []) ≡ cond b (drop (n + c) xs) []
 given_up true c n xs = drop-drop c n xs
@@ -39,10 +39,6 @@ settled_holds b runs h dropped drafted is legal holds = rw is (each (reader_end 
         → (settled (is_some o) b).held ≡ cond (is_none o) (held (Commit runs ∷ h)) []
     each (Some code) more same = same
     each None more same = ap (λ (xs : List ℕ). xs ++ b.draft) same ∙ sym (more ∙ ap (λ (xs : List ℕ). held h ++ xs) drafted)
-
-read_lends : (b : Bool) (bytes lent : List ℕ) → cond b (Some bytes) None ≡ Some lent → lent ≡ bytes
-read_lends true bytes lent e = cc
-read_lends false bytes lent e = absurd cc
 
 -- what is lent is the front of what is committed and not consumed
 lend_front : (h : List Call) (bytes : List ℕ) → IsLegal h → lend h ≡ Some bytes → bytes ≡ take (length bytes) (held h)
@@ -97,18 +93,13 @@ lent_within p h s = each p.control.lent refl
     each (Some n) is = (lent p h n is s).within
     each None is = omega arith
 
-pub lent_bytes : (p : Pipe) (h : List Call) → HoldsFor p h → IsSome p.control.lent → lend h ≡ Some (take (unwrap_or p.control.lent 0) p.bytes.held)
-lent_bytes p h s some = each p.control.lent refl some
+-- where something is lent, its bytes and how many they are
+pub lent_is : (p : Pipe) (h : List Call) → HoldsFor p h → IsSome p.control.lent
+    → (lend h ≡ Some (take (unwrap_or p.control.lent 0) p.bytes.held)) × (p.control.lent ≡ Some (length (take (unwrap_or p.control.lent 0) p.bytes.held)))
+lent_is p h s some = each p.control.lent refl some
   where
-    each : (o : Option ℕ) → p.control.lent ≡ o → IsSome o → lend h ≡ Some (take (unwrap_or o 0) p.bytes.held)
-    each (Some n) is some = (lent p h n is s).bytes
-    each None is none = absurd cc
-
-pub lent_length : (p : Pipe) (h : List Call) → HoldsFor p h → IsSome p.control.lent → p.control.lent ≡ Some (length (take (unwrap_or p.control.lent 0) p.bytes.held))
-lent_length p h s some = each p.control.lent refl some
-  where
-    each : (o : Option ℕ) → p.control.lent ≡ o → IsSome o → o ≡ Some (length (take (unwrap_or o 0) p.bytes.held))
-    each (Some n) is some = ap Some (omega (arith, (lent p h n is s).within, length-take n p.bytes.held))
+    each : (o : Option ℕ) → p.control.lent ≡ o → IsSome o → (lend h ≡ Some (take (unwrap_or o 0) p.bytes.held)) × (o ≡ Some (length (take (unwrap_or o 0) p.bytes.held)))
+    each (Some n) is some = let l = lent p h n is s in (l.bytes, ap Some (omega (arith, l.within, length-take n p.bytes.held)))
     each None is none = absurd cc
 
 pub may_release : (p : Pipe) (h : List Call) (c e : ℕ) → MayAdvance p.control.lent c e → HoldsFor p h → c ≤ length p.bytes.held

@@ -16,8 +16,8 @@ use Rattle.pipe_core.specs.Reads.{read_is_ready, reply_to_read}
 use Rattle.pipe_core.specs.Flushes.{flush_is_ready, reply_to_commit}
 use Rattle.pipe_core.specs.Wakes.{wake_of}
 use Rattle.pipe_core.specs.Lends.{lend}
-use Rattle.pipe_core.specs.Answers.{Flushed, Gave, Woke, answer_to, ended_after, gone_after, lent_after}
-use Rattle.pipe_core.specs.Standing.{StandsFor, AreThresholds, MayAdvance, IsSound, ControlAnswers, thresholds_of}
+use Rattle.pipe_core.specs.Answers.{Answer, Flushed, Gave, Woke, answer_to, ended_after, gone_after, lent_after}
+use Rattle.pipe_core.specs.Standing.{StandsFor, AreThresholds, MayAdvance, IsSound, ControlAnswers, Thresholds, thresholds_of}
 use Rattle.pipe_core.specs.Control.{reads_now, flush_goes, flushes_now, woken, total_with, pauses_at, pause_lasts}
 use Rattle.pipe_core.proofs.OrderLemmas.{ordered, total_commit}
 
@@ -58,9 +58,8 @@ flushes_is : (m : Marks) (h : List Call) → StandsFor m h → flushes_now m ≡
 flushes_is m h s =
     rw (s.flush_canceled, s.gone) (ap (λ (b : Bool). canceled_flush h || is_some (reader_end h) || not b) (s.paused ∙ sym (paused_by_nothing m.pause m.resume h)))
 
-flushes_are : (m : Marks) (pause resume : ℕ) (h : List Call) → m.pause ≡ pause → m.resume ≡ resume → StandsFor m h → flushes_now m ≡ flush_is_ready pause resume h []
-flushes_are m pause resume h e f s =
-    subst (λ (p : ℕ). flushes_now m ≡ flush_is_ready p resume h []) e (subst (λ (r : ℕ). flushes_now m ≡ flush_is_ready m.pause r h []) f (flushes_is m h s))
+pub same_thresholds : (m n : Marks) → n.pause ≡ m.pause → n.resume ≡ m.resume → thresholds_of n ≡ thresholds_of m
+same_thresholds m n pause resume = rw (pause, resume) refl
 
 abbrev wake_by : Bool → Bool → Wake
 wake_by reader writer = record { reader = reader; writer = writer }
@@ -71,7 +70,7 @@ both r r' w w' e f = rw (e, f) refl
 -- the wake of a call is read off the marks before and after it
 pub wake_is : (m n : Marks) (call : Call) (h : List Call) → n.pause ≡ m.pause → n.resume ≡ m.resume → StandsFor m h → StandsFor n (call ∷ h) → woken m n ≡ wake_of m.pause m.resume call h
 wake_is m n call h pause resume s t =
-    let after = flushes_are n m.pause m.resume (call ∷ h) pause resume t in
+    let after = subst (λ (s : Thresholds). flushes_now n ≡ flush_is_ready s.pause s.resume (call ∷ h) []) (same_thresholds m n pause resume) (flushes_is n (call ∷ h) t) in
     both _ _ _ _
     (rw (s.reader_waits, reads_is m h s, reads_is n (call ∷ h) t) refl)
     (rw (s.writer_waits, flushes_is m h s, after) refl)
@@ -97,22 +96,21 @@ pub sound_after : (m n : Marks) (call : Call) → n.pause ≡ m.pause → n.resu
 sound_after m n call pause resume sound stands =
     sound_of n (call ∷ sound.history.0) (rw (pause, resume) sound.thresholds) (stands sound.history.0 sound.history.1)
 
-pub same_thresholds : (m n : Marks) → n.pause ≡ m.pause → n.resume ≡ m.resume → thresholds_of n ≡ thresholds_of m
-same_thresholds m n pause resume = rw (pause, resume) refl
+-- what a call leaves, and its answer
+leaves : (m n : Marks) (call : Call) (answer : Answer) → n.pause ≡ m.pause → n.resume ≡ m.resume → ((h : List Call) → StandsFor m h → StandsFor n (call ∷ h)) → ((h : List Call) → StandsFor m h → answer ≡ answer_to m.pause m.resume call h)
+    → n.ended ≡ ended_after call m.ended → n.gone ≡ gone_after call m.gone → n.lent ≡ lent_after call answer m.lent → (IsSound m → IsSound n) × ControlAnswers m call answer n
+leaves m n call answer pause resume stands told ended gone lent = (
+  λ sound. sound_after m n call pause resume sound stands,
+  record { kept = same_thresholds m n pause resume; ended = ended; gone = gone; lent = lent; told = told; stands = stands },
+)
 
 -- a call whose only answer is its wake
 pub woke : (m n : Marks) (call : Call) (wake : Wake) → n.pause ≡ m.pause → n.resume ≡ m.resume → wake ≡ woken m n
     → ((h : List Call) → StandsFor m h → StandsFor n (call ∷ h))
     → ((h : List Call) → answer_to m.pause m.resume call h ≡ Woke (wake_of m.pause m.resume call h))
     → n.ended ≡ ended_after call m.ended → n.gone ≡ gone_after call m.gone → n.lent ≡ lent_after call (Woke wake) m.lent → ControlAnswers m call (Woke wake) n
-woke m n call wake pause resume e stands only ended gone lent = record {
-  kept = same_thresholds m n pause resume;
-  ended = ended;
-  gone = gone;
-  lent = lent;
-  told = λ h s. ap Woke (e ∙ wake_is m n call h pause resume s (stands h s)) ∙ sym (only h);
-  stands = stands;
-}
+woke m n call wake pause resume e stands only ended gone lent =
+    (leaves m n call (Woke wake) pause resume stands (λ h s. ap Woke (e ∙ wake_is m n call h pause resume s (stands h s)) ∙ sym (only h)) ended gone lent).1
 
 pub after_cancel_read : (m : Marks) (h : List Call) → StandsFor m h → StandsFor (record m { read_canceled = true }) (CancelRead ∷ h)
 after_cancel_read m h s = record {
@@ -366,20 +364,12 @@ pub reads : (m : Marks) (ready : Bool) (lent : Option ℕ) (reply : ReadReply) (
 reads m ready lent reply wake attended no_lend is lends told n new woke =
     let stands : (h : List Call) → StandsFor m h → StandsFor n (Read ∷ h) = λ h s. rw (new, lends, is) (after_read m h attended no_lend s) in
     let pause : n.pause ≡ m.pause = rw new refl in
-    let resume : n.resume ≡ m.resume = rw new refl in (
-      (λ sound. sound_after m n Read pause resume sound stands),
-      record {
-        kept = same_thresholds m n pause resume;
-        ended = rw new refl;
-        gone = rw new refl;
-        lent = rw new (lends ∙ lent_told ready (m.committed - m.consumed) m.read_canceled m.ended m.examined reply wake m.lent told);
-        told = λ h s.
-            let reply_is : reply ≡ reply_to_read h = told ∙ (rw is (told_read m h s)) in
-            let wake_is : wake ≡ wake_of m.pause m.resume Read h = woke ∙ wake_is m n Read h pause resume s (stands h s) in
-            rw (reply_is, wake_is) refl;
-        stands = stands;
-      },
-    )
+    let resume : n.resume ≡ m.resume = rw new refl in
+    let told_so : (h : List Call) → StandsFor m h → Gave reply wake ≡ answer_to m.pause m.resume Read h = λ h s.
+    let reply_is : reply ≡ reply_to_read h = told ∙ (rw is (told_read m h s)) in
+    let wake_is : wake ≡ wake_of m.pause m.resume Read h = woke ∙ wake_is m n Read h pause resume s (stands h s) in
+    rw (reply_is, wake_is) refl in
+    leaves m n Read (Gave reply wake) pause resume stands told_so (rw new refl) (rw new refl) (rw new (lends ∙ lent_told ready (m.committed - m.consumed) m.read_canceled m.ended m.examined reply wake m.lent told))
 
 -- a commit, with the total that it leaves, the pause and the flag that says whether it is ready
 pub commits : (m : Marks) (size t : ℕ) (paused ready : Bool) (reply : FlushReply) (wake : Wake) → IsNone m.ended → total_with m size ≡ Some t → paused ≡ pauses_at m t
@@ -389,20 +379,12 @@ pub commits : (m : Marks) (size t : ℕ) (paused ready : Bool) (reply : FlushRep
 commits m size t paused ready reply wake unended fits is goes told n new woke runs len =
     let stands : (h : List Call) → StandsFor m h → StandsFor n (Commit runs ∷ h) = λ h s. rw (new, goes, is) (after_commit m size t runs h unended len fits s) in
     let pause : n.pause ≡ m.pause = rw new refl in
-    let resume : n.resume ≡ m.resume = rw new refl in (
-      (λ sound. sound_after m n (Commit runs) pause resume sound stands),
-      record {
-        kept = same_thresholds m n pause resume;
-        ended = rw new refl;
-        gone = rw new refl;
-        lent = rw new refl;
-        told = λ h s.
-            let reply_is : reply ≡ reply_to_commit m.pause m.resume h runs = told ∙ (rw (goes, is) (told_commit m size t runs h len fits s)) in
-            let wake_is : wake ≡ wake_of m.pause m.resume (Commit runs) h = woke ∙ wake_is m n (Commit runs) h pause resume s (stands h s) in
-            rw (reply_is, wake_is) refl;
-        stands = stands;
-      },
-    )
+    let resume : n.resume ≡ m.resume = rw new refl in
+    let told_so : (h : List Call) → StandsFor m h → Flushed reply wake ≡ answer_to m.pause m.resume (Commit runs) h = λ h s.
+    let reply_is : reply ≡ reply_to_commit m.pause m.resume h runs = told ∙ (rw (goes, is) (told_commit m size t runs h len fits s)) in
+    let wake_is : wake ≡ wake_of m.pause m.resume (Commit runs) h = woke ∙ wake_is m n (Commit runs) h pause resume s (stands h s) in
+    rw (reply_is, wake_is) refl in
+    leaves m n (Commit runs) (Flushed reply wake) pause resume stands told_so (rw new refl) (rw new refl) (rw new refl)
 
 -- a run of so many bytes
 abbrev pub run_of : ℕ → List Run

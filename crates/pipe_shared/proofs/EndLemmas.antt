@@ -24,14 +24,6 @@ use Rattle.pipe_shared.specs.Ends.{IsEnd, IsWriter, IsReader}
 use Rattle.pipe_shared.proofs.StateLemmas.{calls_behind}
 use Rattle.pipe_shared.proofs.SeenLemmas.{others, same_writer_end, same_reader_end, same_lend, kept_less, end_wins, end_puts}
 
--- an end that found the turn held
-pub end_finds : (k word : ℕ) (old new : Seat) → IsEnd k old → FindsHeld word old new → IsEnd k new
-end_finds k word old new end finds = subst (IsEnd k) (sym finds.after) (record { numbered = end.numbered; idle = end.idle; own = end.own })
-
-pub end_refused : (k : ℕ) (fault : TryFault) (old new : Seat) → IsEnd k old → Refuses fault old new → IsEnd k new
-end_refused k (try.Busy word) old new end r = end_finds k word old new end r
-end_refused k (try.Worn entries) old new end r = end_wins k old new end r.wins
-
 -- an end that has made a call
 pub end_makes : (k : ℕ) (options : Options) (calls : List Call) (answer : Answer) (old new : Seat) → IsEnd k old → Makes options old calls answer new → IsEnd k new
 end_makes k options calls answer old new end m = end_puts k (reverse calls) m.found new (end_wins k old m.found end m.wins) m.after

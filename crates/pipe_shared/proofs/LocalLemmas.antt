@@ -4,7 +4,7 @@ use Rattle.std.proofs.lemmas.List.{length-take, length-drop, take-take, drop-tak
 use Rattle.turn_cell.specs.History.{made_by}
 use Rattle.pipe_core.specs.declared.reply.Wake.{Wake}
 use Rattle.pipe_core.specs.History.{Run, Call, Commit, Read, Advance, EndReader, bytes_of, run_in, seat_of}
-use Rattle.pipe_core.specs.Answers.{Answer, Flushed, answer_at_once}
+use Rattle.pipe_core.specs.Answers.{Answer, Flushed}
 use Rattle.pipe_core.specs.Bytes.{Bytes, with_draft}
 use Rattle.pipe_core.specs.Pipe.{Pipe, HoldsFor, Made, PipeAnswers, kept}
 use Rattle.pipe_core.proofs.RunLemmas.{run_in_bytes}
@@ -12,7 +12,7 @@ use Rattle.pipe_core.proofs.PipeLemmas.{kept_advance}
 use Rattle.pipe_shared.specs.declared.options.Options.{Options}
 use Rattle.pipe_shared.specs.Log.{calls_of}
 use Rattle.pipe_shared.specs.Local.{Local, with_free, local_of, IsLocal, LocalAnswers, LocalKeeps, with_drafted}
-use Rattle.pipe_shared.proofs.StateLemmas.{more_by, calls_behind}
+use Rattle.pipe_shared.proofs.StateLemmas.{more_by, calls_behind, same_answer}
 use Rattle.pipe_shared.proofs.EndLemmas.{kept_commit}
 use Rattle.std.specs.Prelude.{Result, Ok, Err, IfOk, OnOk, OnErr}
 use Rattle.pipe_core.specs.declared.reply.FlushReply.{FlushReply}
@@ -32,12 +32,9 @@ local_answers options p q granted more calls answer l a = record {
   ended = a.ended;
   gone = a.gone;
   lent = a.lent;
-  told = λ h s. a.told h (whole p (take granted p.bytes.free) h s) ∙ both p.control.pause options.pause p.control.resume options.resume h l.pause l.resume;
+  told = λ h s. a.told h (whole p (take granted p.bytes.free) h s) ∙ same_answer p.control.pause options.pause p.control.resume options.resume calls h l.pause l.resume;
   stands = λ h s. part q (take more q.bytes.free) (calls ++ h) (a.stands h (whole p (take granted p.bytes.free) h s));
 }
-  where
-    both : (p p' r r' : ℕ) (h : List Call) → p ≡ p' → r ≡ r' → answer_at_once p r calls h ≡ answer_at_once p' r' calls h
-    both p p' r r' h e f = rw (e, f) refl
 
 -- calls of one seat stand in its log with the number of that seat
 pub logged : (seat : ℕ) (before after : Local) (calls : List Call) (answer : Answer) (history : List (ℕ × Call)) → AllByRecursion (λ call. seat_of call ≡ seat) calls → LocalAnswers before calls answer after
@@ -47,18 +44,22 @@ logged seat before after calls answer history mine a k = record {
   stands = subst (HoldsFor after.pipe) (sym (calls_behind history seat calls)) (a.stands (calls_of history) k.stands);
 }
 
--- what was granted is still free where no more is held and drafted than before
-still_local : (options : Options) (p q : Pipe) (granted : ℕ) (calls : List Call) (answer : Answer) → IsLocal options p granted → PipeAnswers p calls answer q
-    → length q.bytes.held + length q.bytes.draft ≤ length p.bytes.held + length p.bytes.draft → IsLocal options q granted
-still_local options p q granted calls answer l a less = record {
+-- what is granted behind calls is free
+still_local : (options : Options) (p q : Pipe) (granted more : ℕ) (calls : List Call) (answer : Answer) → IsLocal options p granted → PipeAnswers p calls answer q → more ≤ length q.bytes.free → IsLocal options q more
+still_local options p q granted more calls answer l a within = record {
   history = (calls ++ l.history.0, a.stands l.history.0 l.history.1);
   pause = ap (λ (m : Made). m.thresholds.pause) a.kept ∙ l.pause;
   resume = ap (λ (m : Made). m.thresholds.resume) a.kept ∙ l.resume;
   room = ap (λ (m : Made). m.capacity) a.kept ∙ l.room;
-  within = omega (arith, l.within, ap (λ (m : Made). m.capacity) a.kept, less);
+  within = within;
   segment = l.segment;
   small = l.small;
 }
+
+-- what was granted is still free where no more is held and drafted than before
+no_less : (options : Options) (p q : Pipe) (granted : ℕ) (calls : List Call) (answer : Answer) → IsLocal options p granted → PipeAnswers p calls answer q
+    → length q.bytes.held + length q.bytes.draft ≤ length p.bytes.held + length p.bytes.draft → IsLocal options q granted
+no_less options p q granted calls answer l a less = still_local options p q granted granted calls answer l a (omega (arith, l.within, ap (λ (m : Made). m.capacity) a.kept, less))
 
 local_flush : (options : Options) (p q : Pipe) (granted : ℕ) (answer : Answer) → IsLocal options p granted → ((runs : List Run) → bytes_of runs ≡ p.bytes.draft → PipeAnswers p (Commit runs ∷ []) answer q) → q.bytes.draft ≡ []
     → IsLocal options q granted
@@ -69,7 +70,7 @@ local_flush options p q granted answer l all none =
     let are = run_in_bytes 0 p.bytes.draft in
     let a = all runs are in
     let held = (a.stands h s).held in
-    still_local options p q granted (Commit runs ∷ []) answer l a
+    no_less options p q granted (Commit runs ∷ []) answer l a
     (omega (arith, ap length held, ap length s.held, ap length none, ap length are, kept_commit runs h s.marks.legal))
 
 pub local_flushes : (options : Options) (p q : Pipe) (granted : ℕ) (r : Result (FlushReply × Wake) TooMuch) → IsLocal options p granted
@@ -86,7 +87,7 @@ local_flushed options p q granted (Err refused) l a none same = subst (λ (x : P
 
 pub local_read : (options : Options) (p q : Pipe) (granted : ℕ) (answer : Answer) → IsLocal options p granted → PipeAnswers p (Read ∷ []) answer q → q.bytes ≡ p.bytes → IsLocal options q granted
 local_read options p q granted answer l a same =
-    still_local options p q granted (Read ∷ []) answer l a (omega (arith, ap (λ (b : Bytes). length b.held) same, ap (λ (b : Bytes). length b.draft) same))
+    no_less options p q granted (Read ∷ []) answer l a (omega (arith, ap (λ (b : Bytes). length b.held) same, ap (λ (b : Bytes). length b.draft) same))
 
 pub local_advance : (options : Options) (p q : Pipe) (granted c e : ℕ) (answer : Answer) → IsLocal options p granted → PipeAnswers p (Advance c e ∷ []) answer q → q.bytes.draft ≡ p.bytes.draft → IsLocal options q granted
 local_advance options p q granted c e answer l a same =
@@ -94,25 +95,17 @@ local_advance options p q granted c e answer l a same =
     let s = l.history.1 in
     let held : length q.bytes.held ≡ length (kept (Advance c e ∷ h)) = ap length (a.stands h s).held in
     let front : length (drop c (kept h)) ≡ length (kept (Advance c e ∷ h)) = ap length (kept_advance c e h) in
-    still_local options p q granted (Advance c e ∷ []) answer l a (omega (arith, held, front, length-drop c (kept h), ap length s.held, ap length same))
+    no_less options p q granted (Advance c e ∷ []) answer l a (omega (arith, held, front, length-drop c (kept h), ap length s.held, ap length same))
 
 pub local_end_reader : (options : Options) (p q : Pipe) (granted code : ℕ) (answer : Answer) → IsLocal options p granted → PipeAnswers p (EndReader code ∷ []) answer q → q.bytes.draft ≡ p.bytes.draft → IsLocal options q granted
 local_end_reader options p q granted code answer l a same =
     let h = l.history.0 in
     let held : length q.bytes.held ≡ length (kept (EndReader code ∷ h)) = ap length (a.stands h l.history.1).held in
     let none : length (kept (EndReader code ∷ h)) ≡ 0 = refl in
-    still_local options p q granted (EndReader code ∷ []) answer l a (omega (arith, held, none, ap length same))
+    no_less options p q granted (EndReader code ∷ []) answer l a (omega (arith, held, none, ap length same))
 
 pub local_end_writer : (options : Options) (p q : Pipe) (granted : ℕ) (calls : List Call) (answer : Answer) → IsLocal options p granted → PipeAnswers p calls answer q → IsLocal options q 0
-local_end_writer options p q granted calls answer l a = record {
-  history = (calls ++ l.history.0, a.stands l.history.0 l.history.1);
-  pause = ap (λ (m : Made). m.thresholds.pause) a.kept ∙ l.pause;
-  resume = ap (λ (m : Made). m.thresholds.resume) a.kept ∙ l.resume;
-  room = ap (λ (m : Made). m.capacity) a.kept ∙ l.room;
-  within = omega arith;
-  segment = l.segment;
-  small = l.small;
-}
+local_end_writer options p q granted calls answer l a = still_local options p q granted 0 calls answer l a (omega arith)
 
 pub granted_len : (options : Options) (p : Pipe) (granted : ℕ) → IsLocal options p granted → length (take granted p.bytes.free) ≡ granted
 granted_len options p granted l = omega (arith, length-take granted p.bytes.free, l.within)

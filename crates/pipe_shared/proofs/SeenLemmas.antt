@@ -16,10 +16,7 @@ use Rattle.pipe_core.proofs.PipeLemmas.{kept_advance}
 use Rattle.pipe_shared.specs.Log.{calls_of}
 use Rattle.pipe_shared.specs.Turns.{Seat, Wins}
 use Rattle.pipe_shared.specs.Ends.{IsEnd}
-use Rattle.pipe_shared.proofs.StateLemmas.{calls_of-append, All-reverse}
-
-abbrev IsBySeat : ℕ × Call → Type 0
-IsBySeat e = e.0 ≡ seat_of e.1
+use Rattle.pipe_shared.proofs.StateLemmas.{IsBySeat, calls_of-append, All-reverse}
 
 abbrev IsNotBy : ℕ → Call → Type 0
 IsNotBy k call = seat_of call ≢ k

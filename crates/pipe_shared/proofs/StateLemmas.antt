@@ -24,7 +24,7 @@ calls_of-made_by k (call ∷ calls) = ap (λ (l : List Call). call ∷ l) (calls
 pub calls_with : (h : List (ℕ × Call)) (k : ℕ) (calls : List Call) → calls_of (h ++ made_by k calls) ≡ reverse calls ++ calls_of h
 calls_with h k calls = calls_of-append h (made_by k calls) ∙ ap (λ (l : List Call). reverse l ++ calls_of h) (calls_of-made_by k calls)
 
-abbrev IsBySeat : ℕ × Call → Type 0
+abbrev pub IsBySeat : ℕ × Call → Type 0
 IsBySeat e = e.0 ≡ seat_of e.1
 
 pub All-reverse : {X : Type 0} (P : X → Type 0) (xs : List X) → All P xs → All P (reverse xs)
@@ -49,6 +49,9 @@ more_by seat h calls mine all = All-append IsBySeat h (made_by seat (reverse cal
 pub calls_behind : (h : List (ℕ × Call)) (seat : ℕ) (calls : List Call) → calls_of (h ++ made_by seat (reverse calls)) ≡ calls ++ calls_of h
 calls_behind h seat calls = calls_with h seat (reverse calls) ∙ ap (λ (l : List Call). l ++ calls_of h) (reverse-reverse calls)
 
+pub same_answer : (p p' r r' : ℕ) (calls h : List Call) → p ≡ p' → r ≡ r' → answer_at_once p r calls h ≡ answer_at_once p' r' calls h
+same_answer p p' r r' calls h e f = rw (e, f) refl
+
 -- what a pipe answers is what a state with its options answers
 pub answers : (s : PipeState) (q : Pipe) (calls : List Call) (answer : Answer) → PipeAnswers s.plain calls answer q → q.bytes.draft ≡ [] → StateAnswers s calls answer (record s { plain = q })
 answers s q calls answer a settled = record {
@@ -56,7 +59,7 @@ answers s q calls answer a settled = record {
   ended = a.ended;
   gone = a.gone;
   lent = a.lent;
-  told = λ h k. a.told h k.plain ∙ both s.plain.control.pause s.options.pause s.plain.control.resume s.options.resume h k.pause k.resume;
+  told = λ h k. a.told h k.plain ∙ same_answer s.plain.control.pause s.options.pause s.plain.control.resume s.options.resume calls h k.pause k.resume;
   stands = λ h k. record {
     plain = a.stands h k.plain;
     pause = ap (λ (m : Made). m.thresholds.pause) a.kept ∙ k.pause;
@@ -65,9 +68,6 @@ answers s q calls answer a settled = record {
     settled = settled;
   };
 }
-  where
-    both : (p p' r r' : ℕ) (h : List Call) → p ≡ p' → r ≡ r' → answer_at_once p r calls h ≡ answer_at_once p' r' calls h
-    both p p' r r' h e f = rw (e, f) refl
 
 -- the calls of a completion are the writer's
 pub all_last : (runs : List Run) (code : ℕ) → AllByRecursion (λ call. seat_of call ≡ 0) (closing runs code)

@@ -1,7 +1,7 @@
 -- What attempts, made one behind the other, leave of an end.
 use Rattle.std.proofs.Common.{◌≡◌, ◌<◌, ◌≤◌, ◌^◌, ◌⊎◌, inl, inr, ℕ, ◌+◌, Bool, true, false, cond, List, [], ◌∷◌, ◌++◌, length, reverse, replicate, refl, sym, ap, subst, ◌∙◌, arith, Option, Some, None, append_assoc, append-nil, suc, ◌==◌}
 use Rattle.std.proofs.Math.Dec.{eqb-suc-zero}
-use Rattle.std.specs.Prelude.{IsNone, IsSomeAnd, option_map, Result, Ok, Err}
+use Rattle.std.specs.Prelude.{IsNone, option_map, Ok, Err}
 use Rattle.std.proofs.lemmas.List.{replicate_more}
 use Rattle.pipe_core.specs.declared.reply.Wake.{Wake}
 use Rattle.pipe_core.specs.declared.reply.ReadReply.{ReadReply}
@@ -39,7 +39,7 @@ refused_own (try.Worn entries) old new r = ap (λ (s : Seat). s.own) r.wins.afte
 pub made_own : (options : Options) (calls : List Call) (answer : Answer) (old new : Seat) → Makes options old calls answer new → new.own ≡ old.own ++ reverse calls
 made_own options calls answer old new m = ap (λ (s : Seat). s.own) m.after ∙ ap (λ (s : Seat). s.own ++ reverse calls) m.wins.after
 
--- what a seat has seen ends with what it had seen before, by each attempt and by many
+-- what a seat has seen ends with what it had seen before
 abbrev IsBehind : Seat → Seat → Type 0
 IsBehind old new = IsSince old (calls_of new.seen)
 
@@ -53,34 +53,8 @@ refused_behind : (fault : TryFault) (old new : Seat) → Refuses fault old new �
 refused_behind (try.Busy word) old new r = ([], ap (λ (s : Seat). calls_of s.seen) r.after)
 refused_behind (try.Worn entries) old new r = won_behind old new r.wins
 
-flush_behind : (size : ℕ) (fault : FlushFault) (old new : Seat) → RefusesFlush size fault old new → IsBehind old new
-flush_behind size (flush.Busy word) old new r = ([], ap (λ (s : Seat). calls_of s.seen) r.after)
-flush_behind size (flush.Worn entries) old new r = won_behind old new r.wins
-flush_behind size (flush.TooMuch total) old new r = won_behind old new r.wins
-
 made_behind : (options : Options) (calls : List Call) (answer : Answer) (old new : Seat) → Makes options old calls answer new → IsBehind old new
 made_behind options calls answer old new m = behind_trans old m.found (calls_of new.seen) (won_behind old m.found m.wins) (calls, calls_made calls m.found new m.after)
-
-tried_behind : {S A : Type 0} (seat : S → Seat) (attempt : S → A → S → Type 0) (waits : A → Bool) → ((a b : S) (met : A) → attempt a met b → IsBehind (seat a) (seat b)) → (old new : S) → Tried attempt waits old new → IsBehind (seat old) (seat new)
-tried_behind seat attempt waits each old new untried = ([], refl)
-tried_behind seat attempt waits each old new (tried before _ met t by waited) =
-    behind_trans (seat old) (seat before) (calls_of (seat new).seen) (tried_behind seat attempt waits each old before t) (each before new met by)
-
-reads_behind : (options : Options) (old new : Reader) (met : Result (ReadReply × Wake) TryFault) → TriesRead options old met new → IsBehind old.seat new.seat
-reads_behind options old new (Ok answer) by = made_behind options (Read ∷ []) (Gave answer.0 answer.1) old.seat new.seat by.0
-reads_behind options old new (Err fault) by = refused_behind fault old.seat new.seat by.0
-
-ends_behind : (options : Options) (call : Call) (old new : Reader) (met : Result Wake TryFault) → TriesToEnd options call old met new → IsBehind old.seat new.seat
-ends_behind options call old new (Ok wake) by = made_behind options (call ∷ []) (Woke wake) old.seat new.seat by.0
-ends_behind options call old new (Err fault) by = refused_behind fault old.seat new.seat by.0
-
-flushes_behind : (options : Options) (old new : Writer) (met : Result (FlushReply × Wake) FlushFault) → TriesFlush options old met new → IsBehind old.seat new.seat
-flushes_behind options old new (Ok answer) by = made_behind options (Commit old.draft ∷ []) (Flushed answer.0 answer.1) old.seat new.seat by.0
-flushes_behind options old new (Err fault) by = flush_behind (length (bytes_of old.draft)) fault old.seat new.seat by.0
-
-completes_behind : (options : Options) (code : ℕ) (old new : Writer) (met : Result Wake FlushFault) → TriesCompletion options code old met new → IsBehind old.seat new.seat
-completes_behind options code old new (Ok wake) by = made_behind options (closing old.draft code) (Woke wake) old.seat new.seat by.0
-completes_behind options code old new (Err fault) by = flush_behind (length (bytes_of old.draft)) fault old.seat new.seat by.0
 
 -- a call more behind calls of which all are the same
 one_more : (own before new : List Call) (call : Call) (n : ℕ) → before ≡ own ++ replicate n call → new ≡ before ++ call ∷ [] → new ≡ own ++ replicate (n + 1) call
@@ -113,20 +87,19 @@ nothing_lent None reply len waits = refl
 nothing_lent (Some bytes) (read.Ready canceled ended n) len waits = absurd cc
 nothing_lent (Some bytes) (read.Pending n) len waits = absurd cc
 
-pub something_lent : (lent : Option (List ℕ)) (reply : ReadReply) → option_map length lent ≡ len_of reply → lends_nothing reply ≡ false → IsSomeAnd lent (λ bytes. len_of reply ≡ Some (length bytes))
-something_lent (Some bytes) reply len settled = sym len
-something_lent None (read.Ready canceled ended n) len settled = absurd cc
-something_lent None (read.Pending n) len settled = absurd cc
-
 -- attempts at a read make reads alone
-pub reads_tried : (options : Options) (old new : Reader) → Tried (TriesRead options) waits_to_read old new → (n : ℕ) × (new.seat.own ≡ old.seat.own ++ replicate n Read)
-reads_tried options old new untried = (0, sym (append-nil old.seat.own))
+pub reads_tried : (options : Options) (old new : Reader) → Tried (TriesRead options) waits_to_read old new → (n : ℕ) × (new.seat.own ≡ old.seat.own ++ replicate n Read) × IsBehind old.seat new.seat
+reads_tried options old new untried = (0, sym (append-nil old.seat.own), ([], refl))
 reads_tried options old new (tried before _ (Ok answer) t attempt waits) =
     let more = reads_tried options old before t in
-    (more.0 + 1, one_more old.seat.own before.seat.own new.seat.own Read more.0 more.1 (made_own options (Read ∷ []) (Gave answer.0 answer.1) before.seat new.seat attempt.0))
+    let made = attempt.0 in (
+      more.0 + 1,
+      one_more old.seat.own before.seat.own new.seat.own Read more.0 more.1 (made_own options (Read ∷ []) (Gave answer.0 answer.1) before.seat new.seat made),
+      behind_trans old.seat before.seat _ more.2 (made_behind options (Read ∷ []) (Gave answer.0 answer.1) before.seat new.seat made),
+    )
 reads_tried options old new (tried before _ (Err fault) t attempt waits) =
     let more = reads_tried options old before t in
-    (more.0, refused_own fault before.seat new.seat attempt.0 ∙ more.1)
+    (more.0, refused_own fault before.seat new.seat attempt.0 ∙ more.1, behind_trans old.seat before.seat _ more.2 (refused_behind fault before.seat new.seat attempt.0))
 
 pub reads_on : (options : Options) (old new : Reader) (reply : ReadReply) (wake : Wake) → AtLast (TriesRead options) waits_to_read old (Ok (reply, wake)) new → ReadsOn old.seat reply new.seat
 reads_on options old new reply wake a =
@@ -134,7 +107,7 @@ reads_on options old new reply wake a =
     let made = a.last.0 in
     record {
       found = calls_of made.found.seen;
-      since = behind_trans old.seat a.before.seat _ (tried_behind (λ (r : Reader). r.seat) (TriesRead options) waits_to_read (reads_behind options) old a.before a.tried) (won_behind a.before.seat made.found made.wins);
+      since = behind_trans old.seat a.before.seat _ before.2 (won_behind a.before.seat made.found made.wins);
       seen = read_seen options a.before.seat new.seat reply wake made;
       told = read_told options a.before.seat new.seat reply wake made;
       times = before.0;
@@ -142,38 +115,39 @@ reads_on options old new reply wake a =
     }
 
 -- attempts at a call that waits for turns alone make no entry, and leave the lend
-pub turns_tried : (options : Options) (call : Call) (old new : Reader) → Tried (TriesToEnd options call) waits_for_turn old new → (new.seat.own ≡ old.seat.own) × (new.lent ≡ old.lent)
-turns_tried options call old new untried = (refl, refl)
+pub turns_tried : (options : Options) (call : Call) (old new : Reader) → Tried (TriesToEnd options call) waits_for_turn old new → (new.seat.own ≡ old.seat.own) × (new.lent ≡ old.lent) × IsBehind old.seat new.seat
+turns_tried options call old new untried = (refl, refl, ([], refl))
 turns_tried options call old new (tried before _ (Ok wake) t attempt waits) = absurd cc
 turns_tried options call old new (tried before _ (Err fault) t attempt waits) =
     let kept = turns_tried options call old before t in
-    (refused_own fault before.seat new.seat attempt.0 ∙ kept.0, attempt.1 ∙ kept.1)
+    (refused_own fault before.seat new.seat attempt.0 ∙ kept.0, attempt.1 ∙ kept.1, behind_trans old.seat before.seat _ kept.2 (refused_behind fault before.seat new.seat attempt.0))
 
 pub called_once : (options : Options) (call : Call) (old before : Reader) (wake : Wake) (new : Seat) → Tried (TriesToEnd options call) waits_for_turn old before → Makes options before.seat (call ∷ []) (Woke wake) new → CallsOnce old.seat (call ∷ []) new
 called_once options call old before wake new t made = record {
   found = calls_of made.found.seen;
-  since = behind_trans old.seat before.seat _ (tried_behind (λ (r : Reader). r.seat) (TriesToEnd options call) waits_for_turn (ends_behind options call) old before t) (won_behind before.seat made.found made.wins);
+  since = behind_trans old.seat before.seat _ (turns_tried options call old before t).2 (won_behind before.seat made.found made.wins);
   seen = calls_made (call ∷ []) made.found new made.after;
   own = made_own options (call ∷ []) (Woke wake) before.seat new made ∙ ap (λ l. l ++ call ∷ []) (turns_tried options call old before t).0;
 }
 
--- what a writer had drafted, was granted and has made is as it was
+-- what a writer had drafted, was granted and has made is as it was, and what it had seen isn't forgotten
 pub record IsAsBefore (old new : Writer) : Type 0 where
   pub draft : new.draft ≡ old.draft
   pub free : new.free ≡ old.free
   pub own : new.seat.own ≡ old.seat.own
+  pub behind : IsBehind old.seat new.seat
 
 pub as_before : (a b c : Writer) → IsAsBefore a b → IsAsBefore b c → IsAsBefore a c
-as_before a b c f g = record { draft = g.draft ∙ f.draft; free = g.free ∙ f.free; own = g.own ∙ f.own }
+as_before a b c f g = record { draft = g.draft ∙ f.draft; free = g.free ∙ f.free; own = g.own ∙ f.own; behind = behind_trans a.seat b.seat _ f.behind g.behind }
 
 pub refused_flush : (fault : FlushFault) (old new : Writer) → RefusesFlush (length (bytes_of old.draft)) fault old.seat new.seat → Stays old new → IsAsBefore old new
-refused_flush (flush.Busy word) old new r s = record { draft = s.draft; free = s.free; own = ap (λ (x : Seat). x.own) r.after }
-refused_flush (flush.Worn entries) old new r s = record { draft = s.draft; free = s.free; own = ap (λ (x : Seat). x.own) r.wins.after }
-refused_flush (flush.TooMuch total) old new r s = record { draft = s.draft; free = s.free; own = ap (λ (x : Seat). x.own) r.wins.after }
+refused_flush (flush.Busy word) old new r s = record { draft = s.draft; free = s.free; own = ap (λ (x : Seat). x.own) r.after; behind = ([], ap (λ (x : Seat). calls_of x.seen) r.after) }
+refused_flush (flush.Worn entries) old new r s = record { draft = s.draft; free = s.free; own = ap (λ (x : Seat). x.own) r.wins.after; behind = won_behind old.seat new.seat r.wins }
+refused_flush (flush.TooMuch total) old new r s = record { draft = s.draft; free = s.free; own = ap (λ (x : Seat). x.own) r.wins.after; behind = won_behind old.seat new.seat r.wins }
 
 -- attempts at the writer's completion leave all as it was
 pub completion_tried : (options : Options) (code : ℕ) (old new : Writer) → Tried (TriesCompletion options code) waits_to_complete old new → IsAsBefore old new
-completion_tried options code old new untried = record { draft = refl; free = refl; own = refl }
+completion_tried options code old new untried = record { draft = refl; free = refl; own = refl; behind = ([], refl) }
 completion_tried options code old new (tried before _ (Ok wake) t attempt waits) = absurd cc
 completion_tried options code old new (tried before _ (Err fault) t attempt waits) =
     as_before old before new (completion_tried options code old before t) (refused_flush fault before new attempt.0 attempt.1)
@@ -185,7 +159,7 @@ completes_once options code old before wake new t made =
     let m : Makes options before.seat (closing old.draft code) (Woke wake) new = subst (λ d. Makes options before.seat (closing d code) (Woke wake) new) kept.draft made in
     record {
       found = calls_of m.found.seen;
-      since = behind_trans old.seat before.seat _ (tried_behind (λ (w : Writer). w.seat) (TriesCompletion options code) waits_to_complete (completes_behind options code) old before t) (won_behind before.seat m.found m.wins);
+      since = behind_trans old.seat before.seat _ kept.behind (won_behind before.seat m.found m.wins);
       seen = calls_made (closing old.draft code) m.found new m.after;
       own = made_own options (closing old.draft code) (Woke wake) before.seat new m ∙ ap (λ l. l ++ reverse (closing old.draft code)) kept.own;
     }
@@ -207,6 +181,7 @@ pub record HasFlushed (old new : Writer) : Type 0 where
   pub free : length new.free ≡ length old.free
   pub times : ℕ
   pub own : new.seat.own ≡ old.seat.own ++ Commit old.draft ∷ replicate times (Commit [])
+  pub behind : IsBehind old.seat new.seat
 
 flushed_first : (options : Options) (answer : Answer) (old before new : Writer) → IsAsBefore old before → Makes options before.seat (Commit before.draft ∷ []) answer new.seat → new.draft ≡ [] → length new.free ≡ length before.free → HasFlushed old new
 flushed_first options answer old before new kept made none free = record {
@@ -214,6 +189,7 @@ flushed_first options answer old before new kept made none free = record {
   free = free ∙ ap length kept.free;
   times = 0;
   own = made_own options (Commit before.draft ∷ []) answer before.seat new.seat made ∙ ap (λ (d : List Run). before.seat.own ++ Commit d ∷ []) kept.draft ∙ ap (λ l. l ++ Commit old.draft ∷ []) kept.own;
+  behind = behind_trans old.seat before.seat _ kept.behind (made_behind options (Commit before.draft ∷ []) answer before.seat new.seat made);
 }
 
 flushed_again : (options : Options) (answer : Answer) (old before new : Writer) → HasFlushed old before → Makes options before.seat (Commit before.draft ∷ []) answer new.seat → new.draft ≡ [] → length new.free ≡ length before.free → HasFlushed old new
@@ -223,10 +199,11 @@ flushed_again options answer old before new h made none free = record {
   times = h.times + 1;
   own = asked_again old.seat.own before.seat.own new.seat.own (Commit old.draft) (Commit []) h.times h.own
       (made_own options (Commit before.draft ∷ []) answer before.seat new.seat made ∙ ap (λ (d : List Run). before.seat.own ++ Commit d ∷ []) h.draft);
+  behind = behind_trans old.seat before.seat _ h.behind (made_behind options (Commit before.draft ∷ []) answer before.seat new.seat made);
 }
 
 flushed_not : (old before new : Writer) → HasFlushed old before → IsAsBefore before new → HasFlushed old new
-flushed_not old before new h kept = record { draft = kept.draft ∙ h.draft; free = ap length kept.free ∙ h.free; times = h.times; own = kept.own ∙ h.own }
+flushed_not old before new h kept = record { draft = kept.draft ∙ h.draft; free = ap length kept.free ∙ h.free; times = h.times; own = kept.own ∙ h.own; behind = behind_trans old.seat before.seat _ h.behind kept.behind }
 
 flushed : (options : Options) (answer : Answer) (old before new : Writer) → IsAsBefore old before ⊎ HasFlushed old before → Makes options before.seat (Commit before.draft ∷ []) answer new.seat → new.draft ≡ [] → length new.free ≡ length before.free → HasFlushed old new
 flushed options answer old before new (inl kept) made none free = flushed_first options answer old before new kept made none free
@@ -248,10 +225,14 @@ not_flushed old before new (inr h) same = inr (flushed_not old before new h same
 
 -- attempts at a flush commit the draft once, if at all
 pub flush_tried : (options : Options) (old new : Writer) → Tried (TriesFlush options) waits_to_flush old new → IsAsBefore old new ⊎ HasFlushed old new
-flush_tried options old new untried = inl (record { draft = refl; free = refl; own = refl })
+flush_tried options old new untried = inl (record { draft = refl; free = refl; own = refl; behind = ([], refl) })
 flush_tried options old new (tried before _ (Ok answer) t attempt waits) =
     inr (flushed options (Flushed answer.0 answer.1) old before new (flush_tried options old before t) attempt.0 attempt.1 attempt.2)
 flush_tried options old new (tried before _ (Err fault) t attempt waits) = not_flushed old before new (flush_tried options old before t) (refused_flush fault before new attempt.0 attempt.1)
+
+tried_behind : (old before : Writer) → IsAsBefore old before ⊎ HasFlushed old before → IsBehind old.seat before.seat
+tried_behind old before (inl kept) = kept.behind
+tried_behind old before (inr h) = h.behind
 
 same_flush_reply : (a b : FlushReply) (v w : Wake) → Flushed a v ≡ Flushed b w → a ≡ b
 same_flush_reply a b v w e = cc
@@ -270,7 +251,7 @@ module _ (options : Options) (old before new : Writer) (reply : FlushReply) (wak
     runs = before.draft;
     last = last_runs options (Flushed reply wake) old before new (flush_tried options old before t) made none free;
     found = calls_of made.found.seen;
-    since = behind_trans old.seat before.seat _ (tried_behind (λ (w : Writer). w.seat) (TriesFlush options) waits_to_flush (flushes_behind options) old before t) (won_behind before.seat made.found made.wins);
+    since = behind_trans old.seat before.seat _ (tried_behind old before (flush_tried options old before t)) (won_behind before.seat made.found made.wins);
     seen = calls_made (Commit before.draft ∷ []) made.found new.seat made.after;
     told = same_flush_reply reply (reply_to_commit options.pause options.resume (calls_of made.found.seen) before.draft) wake _ made.told;
     times = has_flushed.times;
@@ -302,14 +283,6 @@ room_tried options hint old new (tried before _ (Err (room.TooLarge asked segmen
 room_tried options hint old new (tried before _ (Err (room.Full full)) t attempt waits) =
     let kept = room_tried options hint old before t in
     (attempt.1.draft ∙ kept.0, ap (λ (s : Seat). s.own) attempt.0.wins.after ∙ kept.1)
-
--- none is made again for a hint that is too large
-pub room_untried : (options : Options) (hint : ℕ) (old new : Writer) → Tried (TriesRoom options hint) waits_for_room old new → options.segment < hint → new ≡ old
-room_untried options hint old new untried large = refl
-room_untried options hint old new (tried before _ (Ok n) t attempt waits) large = absurd cc
-room_untried options hint old new (tried before _ (Err (room.Busy word)) t attempt waits) large = absurd (omega (arith, large, attempt.0.small))
-room_untried options hint old new (tried before _ (Err (room.TooLarge asked segment)) t attempt waits) large = absurd cc
-room_untried options hint old new (tried before _ (Err (room.Full full)) t attempt waits) large = absurd (omega (arith, large, attempt.0.small))
 
 pub granted_own : (options : Options) (hint n : ℕ) (old new : Writer) → Grants options hint n old new → new.seat.own ≡ old.seat.own
 granted_own options hint n old new g = each g.how

@@ -1,8 +1,7 @@
 -- What devices give and take in several calls.
-use Rattle.std.proofs.Common.{◌≡◌, ◌≤◌, ◌+◌, ℕ, List, [], ◌++◌, length, Option, Some, None, Result, Ok, Err, subst, refl, sym, ap, ◌∙◌, append_assoc, arith}
-use Rattle.std.proofs.KnownBytes.{Appends-nil, Appends-trans}
+use Rattle.std.proofs.Common.{◌≡◌, ◌≤◌, ℕ, List, [], length, Option, Some, None, refl, sym, ◌∙◌, arith}
+use Rattle.std.proofs.KnownBytes.{Appends-nil}
 use Rattle.std.proofs.lemmas.List.{append-nil, length-append}
-use Rattle.std.specs.Prelude.{IfErr, IsErrAnd}
 use Rattle.std.specs.Io.KnownBytes.{Appends, Keeps}
 use Rattle.edge_core.specs.Device.{SinkState, Takes, TakesFront}
 
@@ -18,12 +17,3 @@ pub appends_kept : (a b : Option (List ℕ)) → Keeps a b → Appends a b []
 appends_kept None b kept = tt
 appends_kept (Some bytes) None kept = absurd kept
 appends_kept (Some bytes) (Some same) kept = kept ∙ sym (append-nil bytes)
-
--- the error that a `?` passes on is the one that it found
-pub if_err : {T E : Type 0} (r : Result T E) (e : E) (Q : E → Type 0) → IsErrAnd r (λ x. x ≡ e) → Q e → IfErr r Q
-if_err (Ok x) e Q is holds = tt
-if_err (Err x) e Q is holds = subst Q (sym is) holds
-
-pub if_err_from : {T E : Type 0} (r : Result T E) (P Q : E → Type 0) → ((e : E) → P e → Q e) → IfErr r P → IfErr r Q
-if_err_from (Ok x) P Q so holds = tt
-if_err_from (Err x) P Q so holds = so x holds

@@ -389,18 +389,10 @@ behind_call d h text (EndReader code) other legal drained = absurd (other refl)
 behind_call d h text CancelRead other legal drained = record { place = drained.place; passes = drained.passes; rest = drained.rest; short = drained.short; counted = drained.counted; known = drained.known; unended = drained.unended }
 behind_call d h text CancelFlush other legal drained = record { place = drained.place; passes = drained.passes; rest = drained.rest; short = drained.short; counted = drained.counted; known = drained.known; unended = drained.unended }
 
-legal_rest : (calls h : List Call) → IsLegal (calls ++ h) → IsLegal h
-legal_rest [] h legal = legal
-legal_rest (call ∷ calls) h legal = legal_rest calls h legal.0
-
 pub behind_others : (d : DrainState) (h : List Call) (text : List ℕ) (calls : List Call) → AllByRecursion (λ call. seat_of call ≢ 1) calls → IsLegal (calls ++ h) → IsDrained d h text → IsDrained d (calls ++ h) text
 behind_others d h text [] others legal drained = drained
 behind_others d h text (call ∷ calls) others legal drained =
     behind_call d (calls ++ h) text call others.0 legal.0 (behind_others d h text calls others.1 legal.0 drained)
-
-pub writers_are_others : (calls : List Call) → AllByRecursion (λ call. seat_of call ≡ 0) calls → AllByRecursion (λ call. seat_of call ≢ 1) calls
-writers_are_others [] all = tt
-writers_are_others (call ∷ calls) all = (λ one. absurd (omega (arith, all.0, one)), writers_are_others calls all.1)
 
 -- ---- what is known of a lend
 

@@ -1,5 +1,5 @@
 -- The parts of a step of a filler on any pipe, put together.
-use Rattle.std.proofs.Common.{◌≡◌, ◌≢◌, ◌<◌, ◌≤◌, ◌+◌, ◌-◌, ◌^◌, ◌==◌, ℕ, zero, suc, Bool, true, false, List, [], ◌∷◌, ◌++◌, length, Some, None, Result, Ok, Err, refl, sym, ap, ◌∙◌, subst, append_assoc, append-nil, arith, inl, inr}
+use Rattle.std.proofs.Common.{◌≡◌, ◌⊎◌, ◌≢◌, ◌<◌, ◌≤◌, ◌+◌, ◌-◌, ◌^◌, ◌==◌, ℕ, zero, suc, Bool, true, false, List, [], ◌∷◌, ◌++◌, length, Some, None, Result, Ok, Err, refl, sym, ap, ◌∙◌, subst, append_assoc, append-nil, arith, inl, inr}
 use Rattle.std.proofs.lemmas.Bool.{eqb-true}
 use Rattle.std.proofs.lemmas.List.{length-append}
 use Rattle.std.proofs.KnownBytes.{Consumes-nil}
@@ -17,7 +17,7 @@ use Rattle.relay_engine.specs.Filler.{written}
 use Rattle.relay_engine.specs.Later.{Later, CallsLater, HearsLater}
 use Rattle.relay_engine.specs.declared.fill_pipe.NoRoom.{NoRoom}
 use Rattle.relay_engine.specs.declared.fill_pipe.NoRoom.TheVariants as room
-use Rattle.relay_engine.specs.Filling.{Drafting, FillingState, DraftsSome, Drafts, RefusesRoomTo, HasTaken, Commits, Keeps, OrCommits, Replied, Meets, Settles, FilledBy, FillsOn, moves_nothing, owes}
+use Rattle.relay_engine.specs.Filling.{Drafting, FillingState, DraftsSome, Drafts, RefusesRoomTo, HasTaken, Commits, Keeps, OrCommits, LosesBy, Replied, GoesOn, Meets, Settles, FilledBy, FillsOn, moves_nothing, owes}
 use Rattle.relay_engine.specs.declared.filling.Filled.{Filled}
 use Rattle.relay_engine.specs.declared.filling.Filled.TheVariants.{Moved, Paused, Full, Ended}
 
@@ -126,28 +126,26 @@ no_bytes (x ∷ xs) none = absurd cc
 -- ---- a step that committed nothing
 
 module _ {P F : Type 0} (at : P → List Call → Type 0) (others : Call → Type 0) (writer : P → Drafting) (refuses : TryFault → P → P → Type 0) (options : Options) (is_full : F → P → P → Type 0) where
-  pub refused_room : (f : FillingState) (p q : P) (s : SourceState) (refusal : NoRoom F) (fault : TryFault) → refusal ≡ room.Refused fault → RefusesRoomTo is_full refuses refusal p q → (h : List Call) (bytes : List ℕ) → Keeps at others writer f q h bytes → FillsOn at others writer refuses options is_full f p s (Err fault) f q s h bytes
-  refused_room f p q s refusal fault is refused h bytes k = record {
+  stayed : (f f1 : FillingState) (p q : P) (s : SourceState) (answer : Result (Filled F) TryFault) (h : List Call) (bytes : List ℕ) (k : Keeps at others writer f1 q h bytes) → LosesBy answer s [] s → FilledBy at others writer refuses options is_full answer f p h [] q k.found
+      → FillsOn at others writer refuses options is_full f p s answer f1 q s h bytes
+  stayed f f1 p q s answer h bytes k loses cause = record {
     taken = [];
     now = k.found;
     later = later_or_commits others h k.found k.later;
-    holds = subst (HasTaken at writer f q k.found) (sym (append-nil bytes)) k.holds;
-    loses = gives_nothing s;
+    holds = subst (HasTaken at writer f1 q k.found) (sym (append-nil bytes)) k.holds;
+    loses = loses;
     on = λ owed. inl refl;
-    cause = record { found = p; behind = omega arith; so = subst (λ (r : NoRoom F). RefusesRoomTo is_full refuses r p q) is refused };
+    cause = cause;
   }
+
+  pub refused_room : (f : FillingState) (p q : P) (s : SourceState) (refusal : NoRoom F) (fault : TryFault) → refusal ≡ room.Refused fault → RefusesRoomTo is_full refuses refusal p q → (h : List Call) (bytes : List ℕ) → Keeps at others writer f q h bytes → FillsOn at others writer refuses options is_full f p s (Err fault) f q s h bytes
+  refused_room f p q s refusal fault is refused h bytes k =
+      stayed f f p q s (Err fault) h bytes k (gives_nothing s) (record { found = p; behind = omega arith; so = subst (λ (r : NoRoom F). RefusesRoomTo is_full refuses r p q) is refused })
 
   pub found_full : (f : FillingState) (p q : P) (s : SourceState) (refusal : NoRoom F) (full : F) → refusal ≡ room.Full full → RefusesRoomTo is_full refuses refusal p q → (h : List Call) (bytes : List ℕ) → Keeps at others writer f q h bytes
       → FillsOn at others writer refuses options is_full f p s (Ok (Full full)) f q s h bytes
-  found_full f p q s refusal full is found h bytes k = record {
-    taken = [];
-    now = k.found;
-    later = later_or_commits others h k.found k.later;
-    holds = subst (HasTaken at writer f q k.found) (sym (append-nil bytes)) k.holds;
-    loses = (refl, refl);
-    on = λ owed. inl refl;
-    cause = record { found = p; behind = omega arith; so = subst (λ (r : NoRoom F). RefusesRoomTo is_full refuses r p q) is found };
-  }
+  found_full f p q s refusal full is found h bytes k =
+      stayed f f p q s (Ok (Full full)) h bytes k (refl, refl) (record { found = p; behind = omega arith; so = subst (λ (r : NoRoom F). RefusesRoomTo is_full refuses r p q) is found })
 
   -- what was read gave no byte that is taken
   pub ended_on : (inside f : FillingState) (p q q2 : P) (s s' : SourceState) (end : FillEnd) → f.owed ≡ false → inside ≡ f → inside.taken ≤ inside.limit → ((h : List Call) → at q h → at q2 h) → Drafts (inside.limit - inside.taken) s (writer q).draft (Err end) (writer q2).draft s'
@@ -189,6 +187,20 @@ module _ {P F : Type 0} (at : P → List Call → Type 0) (others : Call → Typ
         settled = λ never. absurd cc;
       }
 
+  -- a step whose last call is a commit
+  by_commit : (f f' : FillingState) (p q p' : P) (s s' : SourceState) (answer : Result (Filled F) TryFault) (reply : FlushReply) (h k : List Call) (bytes taken : List ℕ) → Later others h k → (c : Commits at others writer options reply q f' p' k (bytes ++ taken)) → LosesBy answer s taken s'
+      → (f.owed ≡ true → (s' ≡ s) ⊎ GoesOn others options (writer p).draft h (Commit (writer q).draft ∷ c.found)) → FilledBy at others writer refuses options is_full answer f p h taken p' (Commit (writer q).draft ∷ c.found)
+      → FillsOn at others writer refuses options is_full f p s answer f' p' s' h bytes
+  by_commit f f' p q p' s s' answer reply h k bytes taken later c loses on cause = record {
+    taken = taken;
+    now = Commit (writer q).draft ∷ c.found;
+    later = later_commit others h c.found (writer q).draft (later_or_commits others h c.found (later_on others h k c.found later c.later));
+    holds = c.holds;
+    loses = loses;
+    on = on;
+    cause = cause;
+  }
+
   pub behind_read : (f f' : FillingState) (p q q2 p' : P) (s s' : SourceState) (left n : ℕ) (answer : Result (Filled F) TryFault) (options2 : Options) → options2 ≡ options → f.owed ≡ false → (writer q).draft ≡ (writer p).draft → (writer p).exchanges ≤ (writer q2).exchanges
       → (d : DraftsSome left s (writer q).draft n (writer q2).draft s') → (h : List Call) (bytes : List ℕ) → HasTaken at writer f p h bytes → (k : List Call) → Later others h k
       → Settles at others writer refuses options2 answer q2 f' p' k (bytes ++ d.bytes) → FillsOn at others writer refuses options is_full f p s answer f' p' s' h bytes
@@ -208,44 +220,21 @@ module _ {P F : Type 0} (at : P → List Call → Type 0) (others : Call → Typ
       never_first : {T : Type 0} → d.bytes ≡ [] → T
       never_first none = absurd (omega (arith, ap length none, d.size, d.some))
 
-      on : (reply : FlushReply) (c : Commits at others writer options reply q2 f' p' k (bytes ++ d.bytes)) → Later (OrCommits others) h (Commit (writer q2).draft ∷ c.found)
-      on reply c = later_commit others h c.found (writer q2).draft (later_or_commits others h c.found (later_on others h k c.found later c.later))
-
       replied : (reply : FlushReply) (c : Commits at others writer options reply q2 f' p' k (bytes ++ d.bytes)) → Replied others options reply f.owed (writer p).draft h d.bytes (Commit (writer q2).draft ∷ c.found)
       replied reply c = record { runs = (writer q2).draft; found = c.found; last = refl; replied = c.replied; first = λ none. never_first none }
 
+      told : (a : Result (Filled F) TryFault) (reply : FlushReply) (c : Commits at others writer options reply q2 f' p' k (bytes ++ d.bytes)) → LosesBy a s d.bytes s' → FilledBy at others writer refuses options is_full a f p h d.bytes p' (Commit (writer q2).draft ∷ c.found)
+          → FillsOn at others writer refuses options is_full f p s a f' p' s' h bytes
+      told a reply c loses cause = by_commit f f' p q2 p' s s' a reply h k bytes d.bytes later c loses (λ owed. never owed) cause
+
       each : (a : Result (Filled F) TryFault) → Settles at others writer refuses options a q2 f' p' k (bytes ++ d.bytes) → FillsOn at others writer refuses options is_full f p s a f' p' s' h bytes
-      each (Ok (Moved m)) (is, (canceled, c)) = record {
-        taken = d.bytes;
-        now = Commit (writer q2).draft ∷ c.found;
-        later = on (flush.Ready canceled None) c;
-        holds = c.holds;
-        loses = d.given;
-        on = λ owed. never owed;
-        cause = ((size m is).0, (size m is).1, (canceled, replied (flush.Ready canceled None) c));
-      }
-      each (Ok (Paused unexamined)) c = record {
-        taken = d.bytes;
-        now = Commit (writer q2).draft ∷ c.found;
-        later = on (flush.Pending unexamined) c;
-        holds = c.holds;
-        loses = d.given;
-        on = λ owed. never owed;
-        cause = replied (flush.Pending unexamined) c;
-      }
+      each (Ok (Moved m)) (is, (canceled, c)) = told (Ok (Moved m)) (flush.Ready canceled None) c d.given ((size m is).0, (size m is).1, (canceled, replied (flush.Ready canceled None) c))
+      each (Ok (Paused unexamined)) c = told (Ok (Paused unexamined)) (flush.Pending unexamined) c d.given (replied (flush.Pending unexamined) c)
       each (Ok (Full full)) never = absurd never
       each (Ok (Ended taking.End)) never = absurd never
       each (Ok (Ended taking.Fault)) never = absurd never
       each (Ok (Ended taking.Long)) never = absurd never
-      each (Ok (Ended (taking.Gone code))) (canceled, c) = record {
-        taken = d.bytes;
-        now = Commit (writer q2).draft ∷ c.found;
-        later = on (flush.Ready canceled (Some code)) c;
-        holds = c.holds;
-        loses = d.given;
-        on = λ owed. never owed;
-        cause = (canceled, replied (flush.Ready canceled (Some code)) c);
-      }
+      each (Ok (Ended (taking.Gone code))) (canceled, c) = told (Ok (Ended (taking.Gone code))) (flush.Ready canceled (Some code)) c d.given (canceled, replied (flush.Ready canceled (Some code)) c)
       each (Err fault) (refused, c) = record {
         taken = d.bytes;
         now = c.found;
@@ -260,66 +249,32 @@ module _ {P F : Type 0} (at : P → List Call → Type 0) (others : Call → Typ
 
   pub first_refused : (f f1 : FillingState) (p p1 : P) (s : SourceState) (fault : TryFault) → (h : List Call) (bytes : List ℕ) → Settles {F = F} at others writer refuses options (Err fault) p f1 p1 h bytes
       → FillsOn at others writer refuses options is_full f p s (Err fault) f1 p1 s h bytes
-  first_refused f f1 p p1 s fault h bytes (refused, k) = record {
-    taken = [];
-    now = k.found;
-    later = later_or_commits others h k.found k.later;
-    holds = subst (HasTaken at writer f1 p1 k.found) (sym (append-nil bytes)) k.holds;
-    loses = gives_nothing s;
-    on = λ owed. inl refl;
-    cause = record { found = p; behind = omega arith; so = refused };
-  }
+  first_refused f f1 p p1 s fault h bytes (refused, k) = stayed f f1 p p1 s (Err fault) h bytes k (gives_nothing s) (record { found = p; behind = omega arith; so = refused })
 
   -- it is what the step tells
   pub first_told : (f f1 : FillingState) (p p1 : P) (s : SourceState) (filled : Filled F) → f.owed ≡ true → moves_nothing filled ≡ false → (h : List Call) (bytes : List ℕ) → Settles at others writer refuses options (Ok filled) p f1 p1 h bytes
       → FillsOn at others writer refuses options is_full f p s (Ok filled) f1 p1 s h bytes
-  first_told f f1 p p1 s filled owed some h bytes settles = each filled some settles
+  first_told f f1 p p1 s filled owed some h bytes settles = each filled some (subst (Settles at others writer refuses options (Ok filled) p f1 p1 h) (sym (append-nil bytes)) settles)
     where
-      on : (reply : FlushReply) (c : Commits at others writer options reply p f1 p1 h bytes) → Later (OrCommits others) h (Commit (writer p).draft ∷ c.found)
-      on reply c = later_commit others h c.found (writer p).draft (later_or_commits others h c.found c.later)
-
-      holds : (reply : FlushReply) (c : Commits at others writer options reply p f1 p1 h bytes) → HasTaken at writer f1 p1 (Commit (writer p).draft ∷ c.found) (bytes ++ [])
-      holds reply c = subst (HasTaken at writer f1 p1 (Commit (writer p).draft ∷ c.found)) (sym (append-nil bytes)) c.holds
-
-      replied : (reply : FlushReply) (c : Commits at others writer options reply p f1 p1 h bytes) → Replied others options reply f.owed (writer p).draft h [] (Commit (writer p).draft ∷ c.found)
+      replied : (reply : FlushReply) (c : Commits at others writer options reply p f1 p1 h (bytes ++ [])) → Replied others options reply f.owed (writer p).draft h [] (Commit (writer p).draft ∷ c.found)
       replied reply c = record { runs = (writer p).draft; found = c.found; last = refl; replied = c.replied; first = λ none. (owed, c.later, refl) }
+
+      told : (a : Filled F) (reply : FlushReply) (c : Commits at others writer options reply p f1 p1 h (bytes ++ [])) → LosesBy (Ok a) s [] s → FilledBy at others writer refuses options is_full (Ok a) f p h [] p1 (Commit (writer p).draft ∷ c.found)
+          → FillsOn at others writer refuses options is_full f p s (Ok a) f1 p1 s h bytes
+      told a reply c loses cause = by_commit f f1 p p p1 s s (Ok a) reply h h bytes [] (record { between = []; all = tt; is = refl }) c loses (λ owed. inl refl) cause
 
       positive : (n : ℕ) → (n == 0) ≡ false → 0 < n
       positive zero never = absurd cc
       positive (suc n) some = omega arith
 
-      each : (a : Filled F) → moves_nothing a ≡ false → Settles at others writer refuses options (Ok a) p f1 p1 h bytes → FillsOn at others writer refuses options is_full f p s (Ok a) f1 p1 s h bytes
-      each (Moved n) some (is, (canceled, c)) = record {
-        taken = [];
-        now = Commit (writer p).draft ∷ c.found;
-        later = on (flush.Ready canceled None) c;
-        holds = holds (flush.Ready canceled None) c;
-        loses = gives_nothing s;
-        on = λ owed. inl refl;
-        cause = (omega (arith, is), positive n some, (canceled, replied (flush.Ready canceled None) c));
-      }
-      each (Paused unexamined) some c = record {
-        taken = [];
-        now = Commit (writer p).draft ∷ c.found;
-        later = on (flush.Pending unexamined) c;
-        holds = holds (flush.Pending unexamined) c;
-        loses = gives_nothing s;
-        on = λ owed. inl refl;
-        cause = replied (flush.Pending unexamined) c;
-      }
+      each : (a : Filled F) → moves_nothing a ≡ false → Settles at others writer refuses options (Ok a) p f1 p1 h (bytes ++ []) → FillsOn at others writer refuses options is_full f p s (Ok a) f1 p1 s h bytes
+      each (Moved n) some (is, (canceled, c)) = told (Moved n) (flush.Ready canceled None) c (gives_nothing s) (omega (arith, is), positive n some, (canceled, replied (flush.Ready canceled None) c))
+      each (Paused unexamined) some c = told (Paused unexamined) (flush.Pending unexamined) c (gives_nothing s) (replied (flush.Pending unexamined) c)
       each (Full full) some never = absurd never
       each (Ended taking.End) some never = absurd never
       each (Ended taking.Fault) some never = absurd never
       each (Ended taking.Long) some never = absurd never
-      each (Ended (taking.Gone code)) some (canceled, c) = record {
-        taken = [];
-        now = Commit (writer p).draft ∷ c.found;
-        later = on (flush.Ready canceled (Some code)) c;
-        holds = holds (flush.Ready canceled (Some code)) c;
-        loses = gives_nothing s;
-        on = λ owed. inl refl;
-        cause = (canceled, replied (flush.Ready canceled (Some code)) c);
-      }
+      each (Ended (taking.Gone code)) some (canceled, c) = told (Ended (taking.Gone code)) (flush.Ready canceled (Some code)) c (gives_nothing s) (canceled, replied (flush.Ready canceled (Some code)) c)
 
   -- it went through, and there was nothing to tell
   pub record WentThrough (p : P) (f1 : FillingState) (p1 : P) (h : List Call) (bytes : List ℕ) : Type 0 where

@@ -76,14 +76,6 @@ unspellable_stops job x at_end from to n at frame e =
     ap (λ c. translation_of job.input job.output c.payloads c.verdict) (frame.goes_on [] at_end (may_stop at_end)) in
     ap (λ t. translation job t at_end) (sym (append-nil x)) ∙ whole ∙ cannot_spell job.input job.output p rest.payloads (moved n rest.verdict) at e
 
-pub no_frame : (job : Job) (x : List ℕ) (at_end : Bool) (v : Verdict) → cut job.input job.max x at_end ≡ record { payloads = []; verdict = v } → translation job x at_end ≡ record { text = []; verdict = v }
-no_frame job x at_end v e = ap (λ c. translation_of job.input job.output c.payloads c.verdict) e
-
-pub frame_text : (job : Job) (x : List ℕ) (at_end : Bool) (from to n : ℕ) → BeginsWithFrame job.input job.max x at_end from to n → IsNone (obstacle job.output (slice_range x from to))
-    → (translation job x at_end).text ≡ spelling job.output (slice_range x from to) ++ (translation job (drop n x ++ []) at_end).text
-frame_text job x at_end from to n frame spelt =
-    ap (λ t. (translation job t at_end).text) (sym (append-nil x)) ∙ ap (λ t. t.text) (frame_goes_on job x at_end from to n frame spelt [] at_end (may_stop at_end))
-
 -- ---- which payloads are written
 
 first_of : (o : Option ℕ) (p : List ℕ) (ps : List (List ℕ)) → IsNone o → cond (is_none o) (p ∷ ps) [] ≡ p ∷ ps

@@ -10,20 +10,16 @@ use Rattle.pipe_core.specs.Legal.{IsLegal}
 use Rattle.pipe_shared.specs.declared.faults.TryFault.{TryFault}
 use Rattle.pipe_shared.specs.declared.faults.TryFault.TheVariants as try
 use Rattle.pipe_shared.specs.Log.{calls_of}
-use Rattle.pipe_core.specs.declared.reply.Wake.{Wake}
-use Rattle.pipe_core.specs.Answers.{Woke}
 use Rattle.frame_model.specs.declared.job.Job.{Job}
-use Rattle.pipe_shared.specs.declared.options.Options.{Options}
 use Rattle.pipe_shared.specs.Name.{Name}
-use Rattle.pipe_shared.specs.Heard.{CallsBehind}
-use Rattle.pipe_shared.specs.Turns.{Makes, Seat}
+use Rattle.pipe_shared.specs.Turns.{Seat}
 use Rattle.pipe_shared.specs.Ends.{Reader}
 use Rattle.relay_engine.specs.Drainer.{IsDrained, end_code}
 use Rattle.relay_engine.specs.Ending.{is_sink_fault}
 use Rattle.relay_engine.specs.Sides.{Concludes, HasDrained}
 use Rattle.relay_engine.specs.Sides.{GainsBy as SideGains}
 use Rattle.relay_engine.specs.ReaderEnds.{HasRead, RefusesReader, exchanges_of, lent_len, nothing_aside}
-use Rattle.relay_engine.specs.Draining.{DrainingState, DrainsOnce, GainsBy, GainsIf, HasPassed, Idles, IsRefused, IsWithin, MovesBy, Stands, is_fault, lent_for, owes_fault}
+use Rattle.relay_engine.specs.Draining.{DrainingState, DrainsOnce, GainsBy, GainsIf, HasPassed, Idles, IsRefused, IsWithin, MovesBy, Stands, is_fault, lent_for}
 use Rattle.relay_engine.specs.PipeDrainer.{BehindStep, CompletesFor, DrainerState, EndsReader, GainsFor, IsDone, IsDraining, IsOfPipe, NotReaders, RefusesToEnd, StandsAt, StepsDrainer, end_by, owes_end, refused_step, seen_by}
 use Rattle.relay_engine.specs.PipeDrainer.{has_failed as step_has_failed}
 use Rattle.relay_engine.specs.declared.drain_end.DrainEnd.{DrainEnd}
@@ -33,7 +29,6 @@ use Rattle.relay_engine.specs.declared.draining.Progress.{Progress}
 use Rattle.relay_engine.specs.declared.draining.Progress.TheVariants as progress
 use Rattle.relay_engine.specs.declared.pipe_drainer.DrainStep.{DrainStep}
 use Rattle.relay_engine.specs.declared.pipe_drainer.DrainStep.TheVariants.{Moved, Idle, Busy, Worn, Done}
-use Rattle.relay_engine.proofs.DeviceLemmas.{takes_nothing}
 use Rattle.relay_engine.proofs.DrainingLemmas.{concludes_later}
 use Rattle.relay_engine.proofs.PumpLemmas.{new_drained}
 use Rattle.relay_engine.proofs.ReaderEndLemmas.{legal_behind}
@@ -256,14 +251,6 @@ pub record HasWritten (job : Job) (before : SinkState) (d : DrainerState) (now :
   pub gained : GainsIf (owes_end d.ending d.draining.owed) before text now
   pub job_is : d.draining.drained.job ≡ job
 
-pub wrote_nothing : (d : DrainerState) (k : SinkState) → IsDraining d [] → d.ending ≡ None → d.draining.owed ≡ None → HasWritten d.draining.drained.job k d k
-wrote_nothing d k draining going none = record {
-  text = [];
-  draining = draining;
-  gained = subst (λ (o : Option DrainEnd). GainsIf (owes_end o d.draining.owed) k [] k) (sym going) (subst (λ (o : Option Owed). GainsIf (owes_fault o) k [] k) (sym none) (takes_nothing k k refl));
-  job_is = refl;
-}
-
 pub adds : (failed : Bool) (a b c : SinkState) (text gain : List ℕ) → Takes a text b → GainsIf failed b gain c → GainsIf failed a (text ++ gain) c
 adds true a b c text gain taken more = (Appends-trans _ _ _ text gain taken.taken more.0, rw (← taken.unfailed) more.1)
 adds false a b c text gain taken more = Takes-trans a b c text gain taken more
@@ -335,10 +322,7 @@ wrote_all job before d d' k k' (Done told) end seat frames written ends_so is co
       own = subst (λ (s : Seat). s.own ≡ done.calls ++ EndReader (end_code told) ∷ []) at_seat done.own;
     })
 
--- ---- a new drainer, and a completion
-
-pub ends_reader : (options : Options) (code : ℕ) (wake : Wake) (r : Reader) (seat : Seat) → CallsBehind options 1 (seen_by r) (EndReader code ∷ []) (Woke wake) (calls_of seat.seen) → Makes options r.seat (EndReader code ∷ []) (Woke wake) seat → EndsReader code r seat
-ends_reader options code wake r seat behind makes = record { options = options; wake = wake; behind = behind; calls = makes.found.own; own = ap (λ s. s.own) makes.after }
+-- ---- a new drainer
 
 pub begins_new : (d : DrainerState) (r : Reader) (job : Job) → d.end ≡ Some r → d.ending ≡ None → d.draining ≡ record { drained = record { job = job; place = 0; frames = 0; written = 0; known = 0 }; owed = None } → r.seat.seen ≡ [] → r.lent ≡ None → IsDraining d []
 begins_new d r job has going new unseen no_lend = record {

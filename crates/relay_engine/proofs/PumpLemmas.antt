@@ -363,7 +363,3 @@ never_refused job sb s kb k k' f d d' p p' ending fault on once = (once.cause on
 -- where the next step of the drainer may come
 pub lends_none : (d' : DrainingState) (p' : Local) → d'.owed ≡ None → lent_local p' ≡ lent_for d'.owed → lent_local p' ≡ None
 lends_none d' p' fresh lends = lends ∙ ap (λ (o : Option Owed). lent_for o) fresh
-
--- the parts of the next step's conditions
-pub may_drain : (job : Job) (sb s : SourceState) (kb k : SinkState) (f : FillingState) (d : DrainingState) (p : Local) (ending : Option FillEnd) → Pumps job sb s kb k f d p ending → (h : List Call) × (text : List ℕ) × HoldsLocal p h × HasPassed d h text
-may_drain job sb s kb k f d p ending on = (on.h, on.text, on.holds, so_far d on.h on.text on.fresh on.goes.drained)

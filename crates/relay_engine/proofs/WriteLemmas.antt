@@ -1,14 +1,13 @@
 -- Frames that are written, one behind the other, and how many of them are whole where a call failed.
-use Rattle.std.proofs.Common.{◌≡◌, ◌<◌, ◌≤◌, ◌+◌, ◌-◌, ◌*◌, ◌^◌, ℕ, Bool, List, [], ◌∷◌, ◌++◌, length, take, drop, refl, sym, ap, ◌∙◌, subst, arith, append_assoc, append-nil}
+use Rattle.std.proofs.Common.{◌≡◌, ◌<◌, ◌≤◌, ◌+◌, ◌-◌, ◌*◌, ◌^◌, ℕ, Bool, List, [], ◌++◌, length, take, drop, refl, sym, ap, ◌∙◌, subst, arith, append_assoc, append-nil}
 use Rattle.std.specs.Prelude.{min}
-use Rattle.std.proofs.lemmas.List.{drop-drop, length-append, length-drop, length-take, take_all, take-append-drop, take-append-le}
+use Rattle.std.proofs.lemmas.List.{drop-drop, length-append, length-drop, length-take, take-append-drop, take-append-le}
 use Rattle.std.proofs.Math.Seq.{take-append-add, take-append_seam}
 use mathlib.Core.List.{IsPrefix}
 use Rattle.edge_core.specs.Device.{SinkState, Takes}
 use Rattle.frame_model.specs.declared.job.Job.{Job}
 use Rattle.frame_model.specs.Spelling.{spelling}
 use Rattle.frame_model.specs.Translation.{translation}
-use Rattle.span_seq.specs.Spans.{bytes_of, whole_of}
 use Rattle.relay_engine.specs.Frames.{Breaks, CountsWhole, Drains, Interrupts, IsFirst, Passes, StopsAt, capped}
 use Rattle.relay_engine.specs.Gathering.{Gathered, Puts, PutsFront, begun, counted}
 use Rattle.relay_engine.specs.declared.frames.Stop.{Stop}

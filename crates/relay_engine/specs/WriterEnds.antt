@@ -1,5 +1,5 @@
 -- What a filler sees of the writing ends of both pipes.
-use Rattle.std.specs.Prelude.{ℕ, ◌≡◌, ◌≢◌, List, length, Some, None, IsNone}
+use Rattle.std.specs.Prelude.{◌≡◌, ◌≢◌, List, length, Some, None, IsNone}
 use Rattle.turn_cell.specs.Seat.{CellState, IsIdle}
 use Rattle.pipe_core.specs.History.{Call, seat_of, run_in}
 use Rattle.pipe_core.specs.Legal.{IsLegal}

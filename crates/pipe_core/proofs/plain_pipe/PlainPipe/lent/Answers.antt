@@ -2,7 +2,7 @@
 use Rattle.std.proofs.Common.{refl, arith}
 use Rattle.std.specs.Prelude.{unwrap_or}
 use Rattle.std.proofs.lemmas.List.{length-take}
-use Rattle.pipe_core.proofs.PipeLemmas.{lent_within, lent_bytes}
+use Rattle.pipe_core.proofs.PipeLemmas.{lent_within, lent_is}
 use Rattle.pipe_core.proofs.plain_pipe.PlainPipe.lent.Goals as goal
 
 pub slice_bounds-result-end : goal.slice_bounds-result-end
@@ -17,7 +17,7 @@ returns-clause-front c = rw (← c.self.view_is, c.held.ensures, c.lent_len-len.
 pub returns-clause-bytes : goal.returns-clause-bytes
 returns-clause-bytes c h s some =
     let p = c.self.inside in
-    rw (c.held.ensures, c.lent_len-len.ensures) (lent_bytes (record { control = p.control; bytes = p.buffer }) h (rw (← c.self.view_is) at s) (rw (← c.self.view_is) at some))
+    rw (c.held.ensures, c.lent_len-len.ensures) (lent_is (record { control = p.control; bytes = p.buffer }) h (rw (← c.self.view_is) at s) (rw (← c.self.view_is) at some)).0
 
 pub returns-clause-len : goal.returns-clause-len
 returns-clause-len c =

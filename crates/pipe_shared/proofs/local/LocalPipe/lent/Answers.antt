@@ -4,7 +4,7 @@ use Rattle.std.specs.Prelude.{unwrap_or, take}
 use Rattle.std.proofs.lemmas.List.{length-take}
 use Rattle.span_seq.specs.Spans.{Part, bytes_of}
 use Rattle.span_seq.specs.Sequence as Sequence
-use Rattle.pipe_core.proofs.PipeLemmas.{lent_bytes, lent_length}
+use Rattle.pipe_core.proofs.PipeLemmas.{lent_is}
 use Rattle.pipe_shared.specs.Local.{lent_span}
 use Rattle.pipe_shared.proofs.SpanLemmas.{one_span, one_size}
 use Rattle.pipe_shared.proofs.LocalLemmas.{part}
@@ -20,7 +20,7 @@ whole-requires c =
     rw (← c.self.view_is) (omega (arith, one_size (take (unwrap_or p.control.lent 0) p.bytes.held), length-take (unwrap_or p.control.lent 0) p.bytes.held, l.room, l.small))
 
 pub returns-clause-bytes : goal.returns-clause-bytes
-returns-clause-bytes c h s = lent_bytes c.args.self.now.pipe h s c.requires ∙ ap Some (sym (whole c))
+returns-clause-bytes c h s = (lent_is c.args.self.now.pipe h s c.requires).0 ∙ ap Some (sym (whole c))
 
 pub returns-clause-len : goal.returns-clause-len
 returns-clause-len c =
@@ -28,4 +28,4 @@ returns-clause-len c =
     let l = c.self.invariant in
     let stands = part p.plain (take p.granted p.plain.bytes.free) l.history.0 l.history.1 in
     let some = rw (← c.self.view_is) at c.requires in
-    rw (whole c, ← c.self.view_is) (lent_length _ l.history.0 stands some)
+    rw (whole c, ← c.self.view_is) (lent_is _ l.history.0 stands some).1
