@@ -1,8 +1,9 @@
 //! The ends of a pipe.
 
-ghost use Rattle.std.specs.Prelude.{◌≡◌, ◌≤◌, ◌++◌, length, take, drop, is_some, Some, IsSome};
+ghost use Rattle.std.specs.Prelude.{◌≡◌, ◌≤◌, [], ◌∷◌, ◌++◌, length, take, drop, is_some, Some, IsSome};
 ghost use Rattle.std.specs.Borrow.{sem};
-ghost use Rattle.span_seq.specs.Sequence.{bytes};
+ghost use Rattle.span_seq.specs.Sequence.{bytes, part};
+ghost use Rattle.span_seq.specs.Spans.{whole_of};
 ghost use Rattle.pipe_core.specs.History.{bytes_of, run_in};
 ghost use Rattle.pipe_shared.specs.Rooms.{own_segment};
 ghost use Rattle.pipe_core.specs.Lends.{lend};
@@ -98,6 +99,7 @@ impl ReaderEnd {
         requires { IsSome self.now.lent }
         ensures lent { self.now.lent ≡ Some (bytes result) }
         ensures bytes { lend (calls_of self.now.seat.seen) ≡ Some (bytes result) }
+        ensures one_span { part result ≡ whole_of (bytes result ∷ []) }
     {
         self.part.lent()
     }

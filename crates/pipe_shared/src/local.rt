@@ -2,7 +2,8 @@
 
 ghost use Rattle.std.specs.Prelude.{◌≡◌, ◌+◌, ◌*◌, ◌^◌, ◌<◌, ◌≤◌, ◌↔◌, List, [], ◌∷◌, length, max, Some, None, IsSome, IsNone, IsErr, IfOk, IfErr, OnOk, OnErr};
 ghost use Rattle.std.specs.Borrow.{sem};
-ghost use Rattle.span_seq.specs.Sequence.{bytes};
+ghost use Rattle.span_seq.specs.Sequence.{bytes, part};
+ghost use Rattle.span_seq.specs.Spans.{whole_of};
 ghost use Rattle.pipe_core.specs.History.{Run, Call, Commit, Read, Advance, EndReader, bytes_of, closing, AreRunsOf};
 ghost use Rattle.pipe_core.specs.Lends.{lend};
 ghost use Rattle.pipe_core.specs.Answers.{Flushed, Gave, Woke};
@@ -185,6 +186,7 @@ impl LocalPipe {
         requires { IsSome self.now.pipe.control.lent }
         ensures bytes { (h : List Call) → HoldsFor self.now.pipe h → lend h ≡ Some (bytes result) }
         ensures len { self.now.pipe.control.lent ≡ Some (length (bytes result)) }
+        ensures one_span { part result ≡ whole_of (bytes result ∷ []) }
     {
         let _ = &self.plain;
         Sequence::whole(self)

@@ -1,8 +1,9 @@
 //! The parts of the two ends that hold their bytes.
 
-ghost use Rattle.std.specs.Prelude.{◌≡◌, ◌≤◌, ◌+◌, ◌^◌, [], ◌++◌, length, take, drop, is_some, Some, None, IsSome, IfOk};
+ghost use Rattle.std.specs.Prelude.{◌≡◌, ◌≤◌, ◌+◌, ◌^◌, [], ◌∷◌, ◌++◌, length, take, drop, is_some, Some, None, IsSome, IfOk};
 ghost use Rattle.std.specs.Borrow.{sem};
-ghost use Rattle.span_seq.specs.Sequence.{bytes};
+ghost use Rattle.span_seq.specs.Sequence.{bytes, part};
+ghost use Rattle.span_seq.specs.Spans.{whole_of};
 ghost use Rattle.pipe_core.specs.History.{bytes_of, AreRunsOf};
 ghost use Rattle.pipe_shared.specs.Rooms.{with_told};
 ghost use Rattle.pipe_shared.specs.Lending.{LendsGranted};
@@ -167,7 +168,8 @@ impl Reading {
     // What is lent.
     pub(crate) fn lent(&self) -> Sequence<'_, Reading>
         requires { IsSome self.now.bytes }
-        ensures { self.now.bytes ≡ Some (bytes result) }
+        ensures bytes { self.now.bytes ≡ Some (bytes result) }
+        ensures one_span { part result ≡ whole_of (bytes result ∷ []) }
     {
         let _ = &self.room;
         Sequence::whole(self)

@@ -1,8 +1,8 @@
 -- The lend is the one span.
-use Rattle.std.proofs.Common.{◌≡◌, ap, sym, ◌∙◌, arith, Some}
+use Rattle.std.proofs.Common.{◌≡◌, ℕ, List, [], ◌∷◌, ap, sym, ◌∙◌, arith, Some}
 use Rattle.std.specs.Prelude.{unwrap_or, take}
 use Rattle.std.proofs.lemmas.List.{length-take}
-use Rattle.span_seq.specs.Spans.{Part, bytes_of}
+use Rattle.span_seq.specs.Spans.{Part, bytes_of, whole_of}
 use Rattle.span_seq.specs.Sequence as Sequence
 use Rattle.pipe_core.proofs.PipeLemmas.{lent_is}
 use Rattle.pipe_shared.specs.Local.{lent_span}
@@ -29,3 +29,6 @@ returns-clause-len c =
     let stands = part p.plain (take p.granted p.plain.bytes.free) l.history.0 l.history.1 in
     let some = rw (← c.self.view_is) at c.requires in
     rw (whole c, ← c.self.view_is) (lent_is _ l.history.0 stands some).1
+
+pub returns-clause-one_span : goal.returns-clause-one_span
+returns-clause-one_span c = c.whole.ensures.part ∙ ap (λ (xs : List ℕ). whole_of (xs ∷ [])) (sym (whole c))
