@@ -24,6 +24,3 @@ pub use laws::{
 };
 pub use plain_pipe::PlainPipe;
 pub use reply::{FlushReply, ReadReply, TooMuch, Wake};
-
-#[cfg(test)]
-mod tests;

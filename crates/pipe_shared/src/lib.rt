@@ -8,16 +8,12 @@ mod entry;
 mod faults;
 mod laws;
 mod local;
-#[cfg(test)]
-mod local_tests;
 mod options;
 mod parking;
 mod parts;
 mod pipe;
 mod reading;
 mod state;
-#[cfg(test)]
-mod tests;
 mod turns;
 mod waiting;
 mod writing;

@@ -1,0 +1,5 @@
+use Rattle.turn_cell.specs.Seat.{IsOf}
+use Rattle.pipe_rows.proofs.shared.draft_on.Given as goal
+
+abbrev pub invariant-loop : goal.invariant-loop
+invariant-loop g l = IsOf l.pipe l.w.seat

@@ -1,0 +1,11 @@
+//! What the pipes answer on known runs: a control and the pipe over one buffer, the pipe of two threads, and that of one.
+#![tactic(auto)]
+
+#[cfg(test)]
+mod local;
+#[cfg(test)]
+mod plain;
+#[cfg(test)]
+mod replies;
+#[cfg(test)]
+mod shared;

@@ -1,0 +1,721 @@
+//! Known runs of a pipe that two threads use, and a third cancels.
+
+ghost use Rattle.std.specs.Prelude.{◌≡◌, None, IfSome, IsNone};
+ghost use Rattle.std.specs.Thread.{IsSync};
+ghost use Rattle.turn_cell.specs.Seat.{IsOf};
+
+use crate::replies::{FLUSHED, NOBODY, THE_READER, THE_WRITER, reply};
+use pipe_core::{FlushReply, ReadReply, Wake};
+use pipe_shared::{
+    Canceller, Closed, Field, FlushFault, Full, Made, MakeError, Options, Pipe, ReaderDone,
+    ReaderEnd, ReaderRefused, RoomFault, TryFault, WriterDone, WriterEnd, WriterRefused,
+};
+use span_seq::{Sequence, Spans};
+use std::sync::Wait;
+use std::test::Fail;
+use std::thread::{Threads, join, yield_now};
+
+pub(crate) const SMALL: Options = Options {
+    segment: 64,
+    segments: 2,
+    pause: 8,
+    resume: 4,
+};
+
+type Flushed = Result<(FlushReply, Wake), FlushFault>;
+
+type Gave = Result<(ReadReply, Wake), TryFault>;
+
+type Woke = Result<Wake, TryFault>;
+
+fn small(rt: &HostRuntime) -> Option<Made>
+    ensures { IfSome result (λ made.
+        IsOf made.0 made.1.seat × IsOf made.0 made.2.seat × IsOf made.0 made.3) }
+{
+    Pipe::make(rt.alloc(), SMALL).ok()
+}
+
+fn with_two_segments(rt: &HostRuntime) -> Option<Made>
+    ensures { IfSome result (λ made.
+        IsOf made.0 made.1.seat × IsOf made.0 made.2.seat × IsOf made.0 made.3) }
+{
+    Pipe::make(rt.alloc(), TWO_SEGMENTS).ok()
+}
+
+fn complete(pipe: &Pipe, w: WriterEnd) -> Option<(WriterDone, Wake)>
+    requires { IsOf pipe.now w.seat }
+    ensures { IfSome result (λ done. IsOf pipe.now done.0) }
+{
+    pipe.try_complete(w, 0).ok()
+}
+
+fn complete_reader(pipe: &Pipe, r: ReaderEnd) -> Option<(ReaderDone, Wake)>
+    requires { IsOf pipe.now r.seat }
+    ensures { IfSome result (λ done. IsOf pipe.now done.0) }
+{
+    pipe.try_complete_reader(r, 0).ok()
+}
+
+// Takes room for these bytes, writes them, tells so, and flushes.
+fn send(pipe: &Pipe, w: &mut WriterEnd, bytes: &[u8]) -> Option<Flushed>
+    requires { IsOf pipe.now w.old.seat }
+    ensures { IsOf pipe.now w.new.seat }
+{
+    if pipe.try_room(w, bytes.len()).is_err() || !draft(w, bytes) {
+        return None;
+    }
+    Some(pipe.try_flush(w))
+}
+
+// Writes these bytes to the front of the free part, and tells so.
+fn draft(w: &mut WriterEnd, bytes: &[u8]) -> bool
+    ensures { w.new.seat ≡ w.old.seat }
+{
+    let spare = w.spare_mut();
+    if spare.len() < bytes.len() {
+        return false;
+    }
+    spare[..bytes.len()].copy_from_slice(bytes);
+    w.advance(bytes.len());
+    true
+}
+
+// Reads, where no lend stands.
+fn read(pipe: &Pipe, r: &mut ReaderEnd) -> Option<Gave>
+    requires { IsOf pipe.now r.old.seat }
+    ensures { IsOf pipe.now r.new.seat }
+{
+    if r.lending() {
+        return None;
+    }
+    Some(pipe.try_read(r))
+}
+
+// Whether a lend is just these bytes.
+pub(crate) fn is_just<C: Spans>(lent: &Sequence<'_, C>, bytes: &[u8]) -> bool {
+    lent.len() == bytes.len() as u64 && lent.starts_with(bytes)
+}
+
+// Advances, where so many bytes are lent and are these.
+fn advance(pipe: &Pipe, r: &mut ReaderEnd, lent: &[u8], c: u64, e: u64) -> Option<Woke>
+    requires { IsOf pipe.now r.old.seat }
+    ensures { IsOf pipe.now r.new.seat }
+{
+    if !r.lending() {
+        return None;
+    }
+    let seq = r.lent();
+    if !is_just(&seq, lent) || c > e || e > seq.len() {
+        return None;
+    }
+    Some(pipe.try_advance(r, c, e))
+}
+
+fn lends(len: u64) -> Option<Gave> {
+    ready(None, len)
+}
+
+fn ready(ended: Option<u32>, len: u64) -> Option<Gave> {
+    Some(Ok((reply(ended, len), NOBODY)))
+}
+
+fn waits(examined: u64) -> Option<Gave> {
+    Some(Ok((ReadReply::Pending { examined }, NOBODY)))
+}
+
+#[test]
+fn a_plain_run_of_a_pipe(rt: HostRuntime) -> Result<(), Fail> {
+    let (pipe, mut w, mut r, k) = small(&rt).ok_or("memory")?;
+    assert!(rt; pipe.try_room(&mut w, 0) == Ok(64));
+    assert!(rt; draft(&mut w, b"abc"));
+    assert_eq!(rt; w.unflushed(), 3);
+    assert!(rt; read(&pipe, &mut r) == waits(0));
+    assert!(rt; pipe.try_flush(&mut w) == Ok((FLUSHED, THE_READER)));
+    assert!(rt; read(&pipe, &mut r) == lends(3));
+    assert!(rt; send(&pipe, &mut w, b"de") == Some(Ok((FLUSHED, NOBODY))));
+    assert!(rt; advance(&pipe, &mut r, b"abc", 1, 3) == Some(Ok(NOBODY)));
+    assert!(rt; read(&pipe, &mut r) == lends(4));
+    assert!(rt; advance(&pipe, &mut r, b"bcde", 4, 4) == Some(Ok(NOBODY)));
+    assert!(rt; read(&pipe, &mut r) == waits(5));
+    let held = FlushReply::Pending { unexamined: 8 };
+    assert!(rt; send(&pipe, &mut w, b"12345678") == Some(Ok((held, THE_READER))));
+    let (w, wake) = complete(&pipe, w).ok_or("free")?;
+    assert!(rt; wake == NOBODY);
+    assert!(rt; read(&pipe, &mut r) == ready(Some(0), 8));
+    assert!(rt; advance(&pipe, &mut r, b"12345678", 8, 8) == Some(Ok(NOBODY)));
+    assert!(rt; read(&pipe, &mut r) == ready(Some(0), 0));
+    let (r, wake) = complete_reader(&pipe, r).ok_or("free")?;
+    assert!(rt; wake == NOBODY);
+    let closed = pipe.close(w, r, k);
+    assert!(rt;
+        closed
+            == Closed {
+                committed: 13,
+                consumed: 13
+            }
+    );
+    Ok(())
+}
+
+// Reads by the call that waits, where no lend stands.
+fn read_waiting<R: Wait>(rt: &R, pipe: &Pipe, r: &mut ReaderEnd) -> Option<ReadReply>
+    requires { IsOf pipe.now r.old.seat }
+    ensures { IsOf pipe.now r.new.seat }
+{
+    if r.lending() {
+        return None;
+    }
+    Some(pipe.read(rt, r))
+}
+
+// Advances by the call that waits, where so many bytes are lent and are these.
+fn advance_waiting<R: Wait>(
+    rt: &R,
+    pipe: &Pipe,
+    r: &mut ReaderEnd,
+    lent: &[u8],
+    c: u64,
+    e: u64,
+) -> bool
+    requires { IsOf pipe.now r.old.seat }
+    ensures { IsOf pipe.now r.new.seat }
+{
+    if !r.lending() {
+        return false;
+    }
+    let seq = r.lent();
+    if !is_just(&seq, lent) || c > e || e > seq.len() {
+        return false;
+    }
+    pipe.advance(rt, r, c, e);
+    true
+}
+
+// Completes the writer by the call that waits.
+fn complete_waiting<R: Wait>(rt: &R, pipe: &Pipe, w: WriterEnd) -> Option<WriterDone>
+    requires { IsOf pipe.now w.seat }
+    ensures { IfSome result (λ done. IsOf pipe.now done) }
+{
+    pipe.complete(rt, w, 0).ok()
+}
+
+#[test]
+fn a_plain_run_of_a_pipe_by_calls_that_wait(rt: HostRuntime) -> Result<(), Fail> {
+    let (pipe, mut w, mut r, k) = small(&rt).ok_or("memory")?;
+    assert!(rt; pipe.room(&rt, &mut w, 0) == Ok(64));
+    assert!(rt; draft(&mut w, b"abc"));
+    assert!(rt; read(&pipe, &mut r) == waits(0));
+    assert!(rt; pipe.flush(&rt, &mut w) == Ok(FLUSHED));
+    assert!(rt; read_waiting(&rt, &pipe, &mut r) == Some(reply(None, 3)));
+    assert!(rt; draft(&mut w, b"de"));
+    assert!(rt; pipe.flush(&rt, &mut w) == Ok(FLUSHED));
+    assert!(rt; advance_waiting(&rt, &pipe, &mut r, b"abc", 1, 3));
+    assert!(rt; read_waiting(&rt, &pipe, &mut r) == Some(reply(None, 4)));
+    assert!(rt; advance_waiting(&rt, &pipe, &mut r, b"bcde", 4, 4));
+    assert!(rt; read(&pipe, &mut r) == waits(5));
+    let held = FlushReply::Pending { unexamined: 8 };
+    assert!(rt; send(&pipe, &mut w, b"12345678") == Some(Ok((held, THE_READER))));
+    let w = complete_waiting(&rt, &pipe, w).ok_or("too much")?;
+    assert!(rt; read_waiting(&rt, &pipe, &mut r) == Some(reply(Some(0), 8)));
+    assert!(rt; advance_waiting(&rt, &pipe, &mut r, b"12345678", 8, 8));
+    assert!(rt; read_waiting(&rt, &pipe, &mut r) == Some(reply(Some(0), 0)));
+    let r = pipe.complete_reader(&rt, r, 0);
+    let closed = pipe.close(w, r, k);
+    assert!(rt;
+        closed
+            == Closed {
+                committed: 13,
+                consumed: 13
+            }
+    );
+    Ok(())
+}
+
+#[test]
+fn room_is_granted_up_to_the_capacity(rt: HostRuntime) -> Result<(), Fail> {
+    let (pipe, mut w, mut r, _k) = small(&rt).ok_or("memory")?;
+    let too_large = RoomFault::TooLarge {
+        hint: 65,
+        segment: 64,
+    };
+    assert!(rt; pipe.try_room(&mut w, 65) == Err(too_large));
+    assert!(rt; send(&pipe, &mut w, &[7; 60]).is_some());
+    assert!(rt; pipe.try_room(&mut w, 4) == Ok(4));
+    assert!(rt; draft(&mut w, &[8; 4]));
+    assert!(rt; pipe.try_room(&mut w, 64) == Ok(64));
+    assert!(rt; draft(&mut w, &[9; 60]));
+    let full = RoomFault::Full(Full {
+        held: 60,
+        draft: 64,
+        capacity: 128,
+    });
+    assert!(rt; pipe.try_room(&mut w, 5) == Err(full));
+    assert!(rt; read(&pipe, &mut r).is_some());
+    assert!(rt; advance(&pipe, &mut r, &[7; 60], 1, 60) == Some(Ok(THE_WRITER)));
+    assert!(rt; pipe.try_room(&mut w, 5) == Ok(5));
+    Ok(())
+}
+
+#[test]
+fn cancellations_end_the_pending_call_or_the_next(rt: HostRuntime) -> Result<(), Fail> {
+    let (pipe, mut w, mut r, mut k) = small(&rt).ok_or("memory")?;
+    assert!(rt; read(&pipe, &mut r) == waits(0));
+    assert!(rt; pipe.try_cancel_read(&mut k) == Ok(THE_READER));
+    let reply = ReadReply::Ready {
+        canceled: true,
+        ended: None,
+        len: 0,
+    };
+    assert!(rt; read(&pipe, &mut r) == Some(Ok((reply, NOBODY))));
+    assert!(rt; pipe.try_cancel_flush(&mut k) == Ok(NOBODY));
+    let reply = FlushReply::Ready {
+        canceled: true,
+        gone: None,
+    };
+    assert!(rt; send(&pipe, &mut w, b"12345678") == Some(Ok((reply, NOBODY))));
+    Ok(())
+}
+
+fn refusal(rt: &HostRuntime, options: Options) -> Option<MakeError> {
+    if options.segments > 1 << 20 || options.segment > 1 << 10 {
+        return None;
+    }
+    Pipe::make(rt.alloc(), options).err()
+}
+
+#[test]
+fn the_first_field_out_of_its_range_is_told(rt: HostRuntime) {
+    let cases = [
+        (
+            Options {
+                segment: 63,
+                ..SMALL
+            },
+            Field::Segment,
+            63,
+        ),
+        (
+            Options {
+                segments: 1,
+                pause: 0,
+                ..SMALL
+            },
+            Field::Segments,
+            1,
+        ),
+        (
+            Options {
+                pause: (1 << 40) + 1,
+                ..SMALL
+            },
+            Field::Pause,
+            (1 << 40) + 1,
+        ),
+        (Options { resume: 9, ..SMALL }, Field::Resume, 9),
+        (Options { resume: 0, ..SMALL }, Field::Resume, 0),
+    ];
+    for (options, field, number) in cases {
+        let wanted = MakeError::BadOptions { field, number };
+        assert!(rt; refusal(&rt, options) == Some(wanted));
+    }
+    let never = Options {
+        pause: 0,
+        resume: 0,
+        ..SMALL
+    };
+    assert!(rt; refusal(&rt, never) == None);
+}
+
+// Tries until there is room for a piece, and drafts it.
+fn draft_on<R: Wait>(rt: &R, pipe: &Pipe, w: &mut WriterEnd, piece: &[u8])
+    requires { IsOf pipe.now w.old.seat }
+    ensures { IsOf pipe.now w.new.seat }
+{
+    for _ in rt.forever() {
+        if pipe.try_room(w, piece.len()).is_ok() && draft(w, piece) {
+            break;
+        }
+    }
+}
+
+// Tries until the draft is flushed, whether or not the writer may go on.
+fn flush_on<R: Wait>(rt: &R, pipe: &Pipe, w: &mut WriterEnd)
+    requires { IsOf pipe.now w.old.seat }
+    ensures { IsOf pipe.now w.new.seat }
+{
+    for _ in rt.forever() {
+        if pipe.try_flush(w).is_ok() {
+            break;
+        }
+    }
+}
+
+// Tries until the writer has completed.
+fn complete_on<R: Wait>(rt: &R, pipe: &Pipe, w: WriterEnd) -> WriterDone
+    requires { IsOf pipe.now w.seat }
+    ensures { IsOf pipe.now result }
+{
+    let mut end = w;
+    for _ in rt.forever() {
+        match pipe.try_complete(end, 0) {
+            Ok((done, _)) => return done,
+            Err(WriterRefused { end: back, .. }) => end = back,
+        }
+    }
+    unreachable!()
+}
+
+// Writes so many pieces, and completes.
+fn write_on<R: Wait>(rt: &R, pipe: &Pipe, mut w: WriterEnd, pieces: u64) -> WriterDone
+    requires { IsOf pipe.now w.seat }
+    ensures { IsOf pipe.now result }
+{
+    for _ in 0..pieces {
+        draft_on(rt, pipe, &mut w, b"a piece of 20 bytes.");
+        flush_on(rt, pipe, &mut w);
+    }
+    complete_on(rt, pipe, w)
+}
+
+// Consumes what is lent, and tells how much that was.
+fn consume(pipe: &Pipe, r: &mut ReaderEnd) -> u64
+    requires { IsOf pipe.now r.old.seat }
+    ensures { IsOf pipe.now r.new.seat }
+{
+    if !r.lending() {
+        return 0;
+    }
+    let len = r.lent().len();
+    match pipe.try_advance(r, len, len) {
+        Ok(_) => len,
+        Err(_) => 0,
+    }
+}
+
+// Reads where no lend stands, and tells whether that was the last read.
+fn is_at_end(pipe: &Pipe, r: &mut ReaderEnd) -> bool
+    requires { IsOf pipe.now r.old.seat }
+    ensures { IsOf pipe.now r.new.seat }
+{
+    let Some(Ok((ReadReply::Ready { ended, len, .. }, _))) = read(pipe, r) else {
+        return false;
+    };
+    ended == Some(0) && len == 0
+}
+
+// Tries until the reader has completed.
+fn end_on<R: Wait>(rt: &R, pipe: &Pipe, r: ReaderEnd) -> ReaderDone
+    requires { IsOf pipe.now r.seat }
+    ensures { IsOf pipe.now result }
+{
+    let mut end = r;
+    for _ in rt.forever() {
+        match pipe.try_complete_reader(end, 0) {
+            Ok((done, _)) => return done,
+            Err(ReaderRefused { end: back, .. }) => end = back,
+        }
+    }
+    unreachable!()
+}
+
+// Reads to the end, and tells how much it consumed.
+fn read_on<R: Wait>(rt: &R, pipe: &Pipe, mut r: ReaderEnd) -> (ReaderDone, u64)
+    requires { IsOf pipe.now r.seat }
+    ensures { IsOf pipe.now result.0 }
+{
+    let mut sum: u64 = 0;
+    for _ in rt.forever() {
+        sum = sum.saturating_add(consume(pipe, &mut r));
+        if is_at_end(pipe, &mut r) {
+            break;
+        }
+    }
+    (end_on(rt, pipe, r), sum)
+}
+
+// Tries so often to cancel a read and a flush.
+fn cancel_often(pipe: &Pipe, mut k: Canceller, times: u64) -> Canceller
+    requires { IsOf pipe.now k }
+    ensures { IsOf pipe.now result }
+{
+    for _ in 0..times {
+        let _canceled = pipe.try_cancel_read(&mut k);
+        let _canceled = pipe.try_cancel_flush(&mut k);
+    }
+    k
+}
+
+type Read = (ReaderDone, u64);
+
+fn read_and_cancel<R: Threads + Wait + Sync>(
+    rt: &R,
+    pipe: &Pipe,
+    r: ReaderEnd,
+    k: Canceller,
+    times: u64,
+) -> (Read, Canceller)
+    requires reader { IsOf pipe.now r.seat }
+    requires canceller { IsOf pipe.now k }
+    ensures reader { IsOf pipe.now result.0.0 }
+    ensures canceller { IsOf pipe.now result.1 }
+{
+    join(
+        rt,
+        || -> Read
+            requires { IsOf pipe.now r.seat }
+            ensures { IsOf pipe.entry.now result.0 }
+        { read_on(rt, pipe, r) },
+        || -> Canceller
+            requires { IsOf pipe.now k }
+            ensures { IsOf pipe.entry.now result }
+        { cancel_often(pipe, k, times) },
+    )
+}
+
+// What three threads have done, one for each end.
+fn use_by_three<R: Threads + Wait + Sync>(
+    rt: &R,
+    pipe: &Pipe,
+    w: WriterEnd,
+    r: ReaderEnd,
+    k: Canceller,
+    times: u64,
+) -> (WriterDone, (Read, Canceller))
+    requires writer { IsOf pipe.now w.seat }
+    requires reader { IsOf pipe.now r.seat }
+    requires canceller { IsOf pipe.now k }
+    ensures writer { IsOf pipe.now result.0 }
+    ensures reader { IsOf pipe.now result.1.0.0 }
+    ensures canceller { IsOf pipe.now result.1.1 }
+{
+    join(
+        rt,
+        || -> WriterDone
+            requires { IsOf pipe.now w.seat }
+            ensures { IsOf pipe.entry.now result }
+        { write_on(rt, pipe, w, times) },
+        || -> (Read, Canceller)
+            requires { IsSync R.row × IsOf pipe.now r.seat × IsOf pipe.now k }
+            ensures { IsOf pipe.entry.now result.0.0 × IsOf pipe.entry.now result.1 }
+        { read_and_cancel(rt, pipe, r, k, times) },
+    )
+}
+
+#[test]
+fn three_threads_use_a_pipe_and_no_byte_is_lost(rt: HostRuntime) -> Result<(), Fail> {
+    let (pipe, w, r, k) = small(&rt).ok_or("memory")?;
+    let (w, ((r, read), k)) = use_by_three(&rt, &pipe, w, r, k, 500);
+    let closed = pipe.close(w, r, k);
+    assert_eq!(rt; read, 10_000);
+    assert!(rt;
+        closed
+            == Closed {
+                committed: 10_000,
+                consumed: 10_000
+            }
+    );
+    Ok(())
+}
+
+const TWO_SEGMENTS: Options = Options {
+    segment: 64,
+    segments: 2,
+    pause: 0,
+    resume: 0,
+};
+
+// Writes so many pieces of 20 bytes, each of which has its number in every byte, and completes.
+fn write_pieces<R: Wait>(rt: &R, pipe: &Pipe, mut w: WriterEnd, pieces: u64) -> Option<WriterDone>
+    requires { IsOf pipe.now w.seat }
+    ensures { IfSome result (λ done. IsOf pipe.now done) }
+{
+    for i in 0..pieces {
+        pipe.room(rt, &mut w, 20).ok()?;
+        if !draft(&mut w, &[(i & 255) as u8; 20]) {
+            return None;
+        }
+        pipe.flush(rt, &mut w).ok()?;
+    }
+    complete_waiting(rt, pipe, w)
+}
+
+// Whether these bytes are those of the pieces, of which so many bytes went before.
+fn is_in_order(bytes: &[u8], before: u64) -> bool {
+    let mut at = before;
+    for byte in bytes {
+        if *byte != (at / 20 & 255) as u8 {
+            return false;
+        }
+        at = at.saturating_add(1);
+    }
+    true
+}
+
+// Reads and consumes once, behind so many bytes. None at the end, or where the bytes aren't those that were written.
+fn read_once<R: Wait>(rt: &R, pipe: &Pipe, r: &mut ReaderEnd, before: u64) -> Option<u64>
+    requires { IsOf pipe.now r.old.seat }
+    ensures { IsOf pipe.now r.new.seat }
+{
+    if r.lending() {
+        return None;
+    }
+    pipe.read(rt, r);
+    let lent = r.lent();
+    let len = lent.len();
+    if !lent.is_single() || !is_in_order(lent.first(), before) {
+        return None;
+    }
+    pipe.advance(rt, r, len, len);
+    (len > 0).then_some(len)
+}
+
+// Reads to the end, and tells how many bytes came in order.
+fn read_pieces<R: Wait>(rt: &R, pipe: &Pipe, mut r: ReaderEnd) -> (ReaderDone, u64)
+    requires { IsOf pipe.now r.seat }
+    ensures { IsOf pipe.now result.0 }
+{
+    let mut sum: u64 = 0;
+    for _ in rt.forever() {
+        match read_once(rt, pipe, &mut r, sum) {
+            Some(len) => sum = sum.saturating_add(len),
+            None => break,
+        }
+    }
+    (pipe.complete_reader(rt, r, 0), sum)
+}
+
+// How many of the bytes of so many pieces come through a pipe in order, between two threads that wait for each other.
+fn passed<R: Threads + Wait + Sync>(
+    rt: &R,
+    pipe: &Pipe,
+    w: WriterEnd,
+    r: ReaderEnd,
+    pieces: u64,
+) -> u64
+    requires writer { IsOf pipe.now w.seat }
+    requires reader { IsOf pipe.now r.seat }
+{
+    let (_done, (_reader, sum)) = join(
+        rt,
+        || -> Option<WriterDone>
+            requires { IsOf pipe.now w.seat }
+        { write_pieces(rt, pipe, w, pieces) },
+        || -> (ReaderDone, u64)
+            requires { IsOf pipe.now r.seat }
+        { read_pieces(rt, pipe, r) },
+    );
+    sum
+}
+
+#[test]
+fn bytes_pass_in_order_between_threads_that_wait(rt: HostRuntime) -> Result<(), Fail> {
+    let (pipe, w, r, _k) = small(&rt).ok_or("memory")?;
+    assert_eq!(rt; passed(&rt, &pipe, w, r, 250), 5_000);
+    let (pipe, w, r, _k) = with_two_segments(&rt).ok_or("memory")?;
+    assert_eq!(rt; passed(&rt, &pipe, w, r, 250), 5_000);
+    Ok(())
+}
+
+// Gives way for so long that a thread beside this one, which waits for it, sleeps.
+fn linger() {
+    for _ in 0..2_000 {
+        yield_now();
+    }
+}
+
+// Reads once, and waits for that.
+fn read_first<R: Wait>(rt: &R, pipe: &Pipe, mut r: ReaderEnd) -> Option<ReadReply>
+    requires { IsOf pipe.now r.seat }
+{
+    read_waiting(rt, pipe, &mut r)
+}
+
+// Cancels a read, late.
+fn cancel_later<R: Wait>(rt: &R, pipe: &Pipe, mut k: Canceller) -> Canceller
+    requires { IsOf pipe.now k }
+{
+    linger();
+    for _ in rt.forever() {
+        if pipe.try_cancel_read(&mut k).is_ok() {
+            break;
+        }
+    }
+    k
+}
+
+// Fills a pipe of two segments, and waits for room.
+fn room_when_full<R: Wait>(rt: &R, pipe: &Pipe, mut w: WriterEnd) -> Option<usize>
+    requires { IsOf pipe.now w.seat }
+{
+    for _ in 0..2 {
+        pipe.room(rt, &mut w, 64).ok()?;
+        if !draft(&mut w, &[7; 64]) {
+            return None;
+        }
+    }
+    pipe.flush(rt, &mut w).ok()?;
+    pipe.room(rt, &mut w, 1).ok()
+}
+
+// Completes the reader, late.
+fn leave_later<R: Wait>(rt: &R, pipe: &Pipe, r: ReaderEnd) -> ReaderDone
+    requires { IsOf pipe.now r.seat }
+{
+    linger();
+    pipe.complete_reader(rt, r, 9)
+}
+
+// What a reader that waits is told when its read is canceled.
+fn canceled<R: Threads + Wait + Sync>(
+    rt: &R,
+    pipe: &Pipe,
+    r: ReaderEnd,
+    k: Canceller,
+) -> Option<ReadReply>
+    requires reader { IsOf pipe.now r.seat }
+    requires canceller { IsOf pipe.now k }
+{
+    let (reply, _canceller) = join(
+        rt,
+        || -> Option<ReadReply>
+            requires { IsOf pipe.now r.seat }
+        { read_first(rt, pipe, r) },
+        || -> Canceller
+            requires { IsOf pipe.now k }
+        { cancel_later(rt, pipe, k) },
+    );
+    reply
+}
+
+// How much room a writer that waits is granted when the reader completes.
+fn left<R: Threads + Wait + Sync>(rt: &R, pipe: &Pipe, w: WriterEnd, r: ReaderEnd) -> Option<usize>
+    requires writer { IsOf pipe.now w.seat }
+    requires reader { IsOf pipe.now r.seat }
+{
+    let (granted, _reader) = join(
+        rt,
+        || -> Option<usize>
+            requires { IsOf pipe.now w.seat }
+        { room_when_full(rt, pipe, w) },
+        || -> ReaderDone
+            requires { IsOf pipe.now r.seat }
+        { leave_later(rt, pipe, r) },
+    );
+    granted
+}
+
+#[test]
+fn an_end_that_waits_is_woken_by_a_cancellation_and_a_completion(
+    rt: HostRuntime,
+) -> Result<(), Fail> {
+    let (pipe, _w, r, k) = small(&rt).ok_or("memory")?;
+    let empty = ReadReply::Ready {
+        canceled: true,
+        ended: None,
+        len: 0,
+    };
+    assert!(rt; canceled(&rt, &pipe, r, k) == Some(empty));
+    let (pipe, w, r, _k) = with_two_segments(&rt).ok_or("memory")?;
+    assert!(rt; left(&rt, &pipe, w, r) == Some(64));
+    Ok(())
+}

@@ -1,5 +1,0 @@
-use Rattle.turn_cell.specs.Seat.{IsOf}
-use Rattle.pipe_shared.proofs.tests.cancel_often.Given as goal
-
-abbrev pub invariant-loop : goal.invariant-loop
-invariant-loop l = IsOf l.pipe l.k

@@ -1,5 +1,0 @@
-use Rattle.turn_cell.specs.Seat.{IsOf}
-use Rattle.pipe_shared.proofs.tests.complete_on.Given as goal
-
-abbrev pub invariant-loop : goal.invariant-loop
-invariant-loop g l = IsOf l.pipe l.end.seat

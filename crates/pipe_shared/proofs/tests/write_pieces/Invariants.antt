@@ -1,5 +1,0 @@
-use Rattle.turn_cell.specs.Seat.{IsOf}
-use Rattle.pipe_shared.proofs.tests.write_pieces.Given as goal
-
-abbrev pub invariant-loop-i : goal.invariant-loop-i
-invariant-loop-i g l = IsOf l.pipe l.w.seat
