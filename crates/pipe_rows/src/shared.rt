@@ -28,18 +28,18 @@ type Gave = Result<(ReadReply, Wake), TryFault>;
 
 type Woke = Result<Wake, TryFault>;
 
-fn small(rt: &HostRuntime) -> Option<Made>
+// A pipe with these options, where they are small.
+fn make(rt: &HostRuntime, options: Options) -> Option<Made>
     ensures { IfSome result (λ made.
         IsOf made.0 made.1.seat × IsOf made.0 made.2.seat × IsOf made.0 made.3) }
 {
-    Pipe::make(rt.alloc(), SMALL).ok()
-}
-
-fn with_two_segments(rt: &HostRuntime) -> Option<Made>
-    ensures { IfSome result (λ made.
-        IsOf made.0 made.1.seat × IsOf made.0 made.2.seat × IsOf made.0 made.3) }
-{
-    Pipe::make(rt.alloc(), TWO_SEGMENTS).ok()
+    if options.segments > 2 || options.segment > 64 {
+        return None;
+    }
+    match Pipe::make(rt.alloc(), options) {
+        Ok(made) => Some(made),
+        Err(_) => None,
+    }
 }
 
 fn complete(pipe: &Pipe, w: WriterEnd) -> Option<(WriterDone, Wake)>
@@ -125,7 +125,7 @@ fn waits(examined: u64) -> Option<Gave> {
 
 #[test]
 fn a_plain_run_of_a_pipe(rt: HostRuntime) -> Result<(), Fail> {
-    let (pipe, mut w, mut r, k) = small(&rt).ok_or("memory")?;
+    let (pipe, mut w, mut r, k) = make(&rt, SMALL).ok_or("memory")?;
     assert!(rt; pipe.try_room(&mut w, 0) == Ok(64));
     assert!(rt; draft(&mut w, b"abc"));
     assert_eq!(rt; w.unflushed(), 3);
@@ -201,7 +201,7 @@ fn complete_waiting<R: Wait>(rt: &R, pipe: &Pipe, w: WriterEnd) -> Option<Writer
 
 #[test]
 fn a_plain_run_of_a_pipe_by_calls_that_wait(rt: HostRuntime) -> Result<(), Fail> {
-    let (pipe, mut w, mut r, k) = small(&rt).ok_or("memory")?;
+    let (pipe, mut w, mut r, k) = make(&rt, SMALL).ok_or("memory")?;
     assert!(rt; pipe.room(&rt, &mut w, 0) == Ok(64));
     assert!(rt; draft(&mut w, b"abc"));
     assert!(rt; read(&pipe, &mut r) == waits(0));
@@ -233,7 +233,7 @@ fn a_plain_run_of_a_pipe_by_calls_that_wait(rt: HostRuntime) -> Result<(), Fail>
 
 #[test]
 fn room_is_granted_up_to_the_capacity(rt: HostRuntime) -> Result<(), Fail> {
-    let (pipe, mut w, mut r, _k) = small(&rt).ok_or("memory")?;
+    let (pipe, mut w, mut r, _k) = make(&rt, SMALL).ok_or("memory")?;
     let too_large = RoomFault::TooLarge {
         hint: 65,
         segment: 64,
@@ -258,7 +258,7 @@ fn room_is_granted_up_to_the_capacity(rt: HostRuntime) -> Result<(), Fail> {
 
 #[test]
 fn cancellations_end_the_pending_call_or_the_next(rt: HostRuntime) -> Result<(), Fail> {
-    let (pipe, mut w, mut r, mut k) = small(&rt).ok_or("memory")?;
+    let (pipe, mut w, mut r, mut k) = make(&rt, SMALL).ok_or("memory")?;
     assert!(rt; read(&pipe, &mut r) == waits(0));
     assert!(rt; pipe.try_cancel_read(&mut k) == Ok(THE_READER));
     let reply = ReadReply::Ready {
@@ -503,7 +503,7 @@ fn use_by_three<R: Threads + Wait + Sync>(
 
 #[test]
 fn three_threads_use_a_pipe_and_no_byte_is_lost(rt: HostRuntime) -> Result<(), Fail> {
-    let (pipe, w, r, k) = small(&rt).ok_or("memory")?;
+    let (pipe, w, r, k) = make(&rt, SMALL).ok_or("memory")?;
     let (w, ((r, read), k)) = use_by_three(&rt, &pipe, w, r, k, 500);
     let closed = pipe.close(w, r, k);
     assert_eq!(rt; read, 10_000);
@@ -609,9 +609,9 @@ fn passed<R: Threads + Wait + Sync>(
 
 #[test]
 fn bytes_pass_in_order_between_threads_that_wait(rt: HostRuntime) -> Result<(), Fail> {
-    let (pipe, w, r, _k) = small(&rt).ok_or("memory")?;
+    let (pipe, w, r, _k) = make(&rt, SMALL).ok_or("memory")?;
     assert_eq!(rt; passed(&rt, &pipe, w, r, 250), 5_000);
-    let (pipe, w, r, _k) = with_two_segments(&rt).ok_or("memory")?;
+    let (pipe, w, r, _k) = make(&rt, TWO_SEGMENTS).ok_or("memory")?;
     assert_eq!(rt; passed(&rt, &pipe, w, r, 250), 5_000);
     Ok(())
 }
@@ -708,14 +708,14 @@ fn left<R: Threads + Wait + Sync>(rt: &R, pipe: &Pipe, w: WriterEnd, r: ReaderEn
 fn an_end_that_waits_is_woken_by_a_cancellation_and_a_completion(
     rt: HostRuntime,
 ) -> Result<(), Fail> {
-    let (pipe, _w, r, k) = small(&rt).ok_or("memory")?;
+    let (pipe, _w, r, k) = make(&rt, SMALL).ok_or("memory")?;
     let empty = ReadReply::Ready {
         canceled: true,
         ended: None,
         len: 0,
     };
     assert!(rt; canceled(&rt, &pipe, r, k) == Some(empty));
-    let (pipe, w, r, _k) = with_two_segments(&rt).ok_or("memory")?;
+    let (pipe, w, r, _k) = make(&rt, TWO_SEGMENTS).ok_or("memory")?;
     assert!(rt; left(&rt, &pipe, w, r) == Some(64));
     Ok(())
 }
