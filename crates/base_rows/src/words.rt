@@ -113,17 +113,21 @@ fn words_of_a_command(rt: HostRuntime) -> Result<(), Fail> {
         ),
     ];
     for (words, job) in cases {
-        assert_eq!(rt; read(alloc, words)?, Ok(Command::Copy { job }));
+        assert_eq!(rt;
+            read(alloc, words)?,
+            Ok(Command::Local(LocalCommand::Copy { job }))
+        );
     }
     let pump = read(alloc, &["pump", "line", "len4", "seg=64"])?;
     let job = Job { seg: 64, ..usual };
-    assert_eq!(rt; pump, Ok(Command::Pump { job }));
+    assert_eq!(rt; pump, Ok(Command::Threaded(ThreadedCommand::Pump { job })));
     let drill = read(
         alloc,
         &["drill", "4294967295", "0", "line", "len4", "seg=64"],
     )?;
     let (seed, count) = (4_294_967_295, 0);
-    assert_eq!(rt; drill, Ok(Command::Drill { seed, count, job }));
+    let wanted = ThreadedCommand::Drill { seed, count, job };
+    assert_eq!(rt; drill, Ok(Command::Threaded(wanted)));
     Ok(())
 }
 
@@ -233,12 +237,12 @@ fn words_of_a_batch(rt: HostRuntime) -> Result<(), Fail> {
         ),
     ];
     for (words, workers, names_from, job) in cases {
-        let batch = Command::Batch {
+        let batch = ThreadedCommand::Batch {
             workers,
             job,
             names_from,
         };
-        assert_eq!(rt; read(alloc, words)?, Ok(batch));
+        assert_eq!(rt; read(alloc, words)?, Ok(Command::Threaded(batch)));
     }
     Ok(())
 }
@@ -311,11 +315,11 @@ fn batch_of(alloc: Global, count: u32) -> Result<Result<Command, Usage>, AllocEr
 #[test]
 fn a_name_has_up_to_255_bytes_and_a_batch_up_to_256_names(rt: HostRuntime) -> Result<(), Fail> {
     let alloc = rt.alloc();
-    let batch = Command::Batch {
+    let batch = Command::Threaded(ThreadedCommand::Batch {
         workers: 2,
         job: job(Framing::Line, Framing::Len4),
         names_from: 4,
-    };
+    });
     assert_eq!(rt; batch_named(alloc, "a", 255)?, Ok(batch));
     assert_eq!(rt; batch_named(alloc, "a", 256)?, Err(Usage { word: 4 }));
     assert_eq!(rt; batch_named(alloc, "é", 127)?, Ok(batch));

@@ -5,7 +5,7 @@ ghost use Rattle.turn_cell.specs.Seat.{IsIdle, IsOf};
 ghost use Rattle.relay_engine.specs.PipeDrainer.{IsDraining, IsOfPipe, OwesNothing};
 
 use edge_core::MemSink;
-use frame_model::{BadKind, Framing, Job};
+use frame_grammar::{BadKind, Framing, Job};
 use pipe_core::{FlushReply, Wake};
 use pipe_shared::{FlushFault, Made, Options, Pipe, WriterDone, WriterEnd};
 use relay_engine::{DrainEnd, DrainStep, Drainer, drain};

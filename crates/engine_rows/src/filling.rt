@@ -5,10 +5,9 @@ ghost use Rattle.turn_cell.specs.Seat.{IsIdle, IsOf};
 ghost use Rattle.relay_engine.specs.PipeFiller.{IsUnused};
 
 use edge_core::{MemSource, Source};
-use frame_model::FillEnd;
 use pipe_core::ReadReply;
 use pipe_shared::{Full, Options, Pipe, ReaderEnd};
-use relay_engine::{FillStep, Filler, fill};
+use relay_engine::{FillEnd, FillStep, Filler, fill};
 use std::alloc::{AllocError, Global};
 use std::test::Fail;
 

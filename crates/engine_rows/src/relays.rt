@@ -1,11 +1,13 @@
 //! The engine in steps, and as a whole.
 
 ghost use Rattle.std.specs.Prelude.{◌≤◌, ◌^◌};
-ghost use Rattle.frame_model.specs.Job.{IsInRange};
+ghost use Rattle.frame_grammar.specs.Job.{IsInRange};
 
 use edge_core::{MemSink, MemSource};
-use frame_model::{BadKind, FillEnd, Framing, Job, Outcome, Report};
-use relay_engine::{DrainEnd, Told, outcome_of, pump_local, status_of, tell};
+use frame_grammar::{BadKind, Framing, Job};
+use relay_engine::{
+    DrainEnd, FillEnd, Outcome, Report, Told, outcome_of, pump_local, status_of, tell,
+};
 use std::alloc::{AllocError, Global};
 use std::test::Fail;
 
@@ -247,7 +249,7 @@ fn an_outcome_has_an_order_a_status_and_a_line(rt: HostRuntime) -> Result<(), Fa
     ];
     for (fill, drain, status, line) in cases {
         let outcome = outcome_of(fill, drain);
-        assert_eq!(rt; status_of(outcome), status);
+        assert_eq!(rt; status_of(outcome).number(), status);
         let report = report(outcome, 1, 7, 4);
         assert!(rt; tells(rt.alloc(), Told::Relay { report }, line)?);
     }

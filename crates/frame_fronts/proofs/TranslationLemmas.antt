@@ -4,10 +4,9 @@ use Rattle.std.specs.Prelude.{IsNone}
 use Rattle.std.specs.List.{AllByRecursion}
 use Rattle.std.proofs.lemmas.List.{length-append, take_at}
 use Rattle.frame_model.specs.declared.framing.Framing.{Framing}
-use Rattle.frame_model.specs.declared.job.Job.{Job}
 use Rattle.frame_model.specs.Spelling.{obstacle, spelling, text}
 use Rattle.frame_model.specs.Cut.{Verdict, Open, End, Rest, Bad, Whole, cut, front, moved}
-use Rattle.frame_model.specs.Translation.{Translation, spellable, from_unspellable, verdict_at, translation_of, translation, behind}
+use Rattle.frame_model.specs.Translation.{Translation, spellable, from_unspellable, verdict_at, translation_of, translation_between, behind}
 use Rattle.frame_model.proofs.CutLemmas.{cut_whole}
 use Rattle.frame_model.proofs.LongestLemmas.{front_again}
 use Rattle.frame_fronts.specs.Fronts.{IsFront}
@@ -44,32 +43,32 @@ behind_behind xs ys m n t = rw (moved_moved m n t.verdict) (ap (λ (text : List 
 behind_nothing : (t : Translation) → behind [] 0 t ≡ t
 behind_nothing t = ap (λ (v : Verdict). record { text = t.text; verdict = v }) (moved_zero t.verdict)
 
-frames_translated : (job : Job) (at_end : Bool) (payloads : List (List ℕ)) (rest : List ℕ)
-    → AllByRecursion (λ p. (length p ≤ job.max) × IsNone (obstacle job.input p) × IsNone (obstacle job.output p)) payloads
-    → translation job (text job.input payloads ++ rest) at_end ≡ behind (text job.output payloads) (length (text job.input payloads)) (translation job rest at_end)
-frames_translated job at_end [] rest each = sym (behind_nothing (translation job rest at_end))
-frames_translated job at_end (p ∷ ps) rest each =
-    let one = spelling job.input p in
-    let more = text job.input ps ++ rest in
-    let whole : front job.input job.max (one ++ more) ≡ Whole p more = front_again job.input job.max p more each.0.0 each.0.1 in
-    let then = cut job.input job.max more at_end in
-    let first : translation job (one ++ more) at_end ≡ behind (spelling job.output p) (length one) (translation job more at_end) =
-    ap (λ c. translation_of job.input job.output c.payloads c.verdict) (cut_whole job.input job.max (one ++ more) p more at_end whole)
-    ∙ translated_behind job.input job.output p then.payloads then.verdict each.0.2 in
-    ap (λ (t : List ℕ). translation job t at_end) (append_assoc one (text job.input ps) rest) ∙ first
-    ∙ ap (λ (t : Translation). behind (spelling job.output p) (length one) t) (frames_translated job at_end ps rest each.1)
-    ∙ behind_behind (spelling job.output p) (text job.output ps) (length one) (length (text job.input ps)) (translation job rest at_end)
-    ∙ ap (λ (n : ℕ). behind (text job.output (p ∷ ps)) n (translation job rest at_end)) (sym (length-append one (text job.input ps)))
+frames_translated : (input output : Framing) (max : ℕ) (at_end : Bool) (payloads : List (List ℕ)) (rest : List ℕ)
+    → AllByRecursion (λ p. (length p ≤ max) × IsNone (obstacle input p) × IsNone (obstacle output p)) payloads
+    → translation_between input output max (text input payloads ++ rest) at_end ≡ behind (text output payloads) (length (text input payloads)) (translation_between input output max rest at_end)
+frames_translated input output max at_end [] rest each = sym (behind_nothing (translation_between input output max rest at_end))
+frames_translated input output max at_end (p ∷ ps) rest each =
+    let one = spelling input p in
+    let more = text input ps ++ rest in
+    let whole : front input max (one ++ more) ≡ Whole p more = front_again input max p more each.0.0 each.0.1 in
+    let then = cut input max more at_end in
+    let first : translation_between input output max (one ++ more) at_end ≡ behind (spelling output p) (length one) (translation_between input output max more at_end) =
+    ap (λ c. translation_of input output c.payloads c.verdict) (cut_whole input max (one ++ more) p more at_end whole)
+    ∙ translated_behind input output p then.payloads then.verdict each.0.2 in
+    ap (λ (t : List ℕ). translation_between input output max t at_end) (append_assoc one (text input ps) rest) ∙ first
+    ∙ ap (λ (t : Translation). behind (spelling output p) (length one) t) (frames_translated input output max at_end ps rest each.1)
+    ∙ behind_behind (spelling output p) (text output ps) (length one) (length (text input ps)) (translation_between input output max rest at_end)
+    ∙ ap (λ (n : ℕ). behind (text output (p ∷ ps)) n (translation_between input output max rest at_end)) (sym (length-append one (text input ps)))
 
-pub front_goes_on : (job : Job) (x : List ℕ) (at_end : Bool) (len frames : ℕ) (payloads : List (List ℕ)) → IsFront job.input job.output job.max x len frames payloads
-    → translation job x at_end ≡ behind (text job.output payloads) len (translation job (drop len x) at_end)
-front_goes_on job x at_end len frames payloads is =
-    ap (λ (t : List ℕ). translation job t at_end) is.parts ∙ frames_translated job at_end payloads (drop len x) is.each
-    ∙ ap (λ (n : ℕ). behind (text job.output payloads) n (translation job (drop len x) at_end)) (sym is.size)
+pub front_goes_on : (input output : Framing) (max : ℕ) (x : List ℕ) (at_end : Bool) (len frames : ℕ) (payloads : List (List ℕ)) → IsFront input output max x len frames payloads
+    → translation_between input output max x at_end ≡ behind (text output payloads) len (translation_between input output max (drop len x) at_end)
+front_goes_on input output max x at_end len frames payloads is =
+    ap (λ (t : List ℕ). translation_between input output max t at_end) is.parts ∙ frames_translated input output max at_end payloads (drop len x) is.each
+    ∙ ap (λ (n : ℕ). behind (text output payloads) n (translation_between input output max (drop len x) at_end)) (sym is.size)
 
-pub front_itself : (job : Job) (x : List ℕ) (at_end : Bool) (len frames : ℕ) (payloads : List (List ℕ)) → job.input ≡ job.output → IsFront job.input job.output job.max x len frames payloads
-    → translation job x at_end ≡ behind (take len x) len (translation job (drop len x) at_end)
-front_itself job x at_end len frames payloads same is =
-    let itself : take len x ≡ text job.input payloads = ap (λ (t : List ℕ). take len t) is.parts ∙ take_at (text job.input payloads) (drop len x) len (sym is.size) in
-    let whole : text job.output payloads ≡ take len x = ap (λ (f : Framing). text f payloads) (sym same) ∙ sym itself in
-    front_goes_on job x at_end len frames payloads is ∙ ap (λ (t : List ℕ). behind t len (translation job (drop len x) at_end)) whole
+pub front_itself : (input output : Framing) (max : ℕ) (x : List ℕ) (at_end : Bool) (len frames : ℕ) (payloads : List (List ℕ)) → input ≡ output → IsFront input output max x len frames payloads
+    → translation_between input output max x at_end ≡ behind (take len x) len (translation_between input output max (drop len x) at_end)
+front_itself input output max x at_end len frames payloads same is =
+    let itself : take len x ≡ text input payloads = ap (λ (t : List ℕ). take len t) is.parts ∙ take_at (text input payloads) (drop len x) len (sym is.size) in
+    let whole : text output payloads ≡ take len x = ap (λ (f : Framing). text f payloads) (sym same) ∙ sym itself in
+    front_goes_on input output max x at_end len frames payloads is ∙ ap (λ (t : List ℕ). behind t len (translation_between input output max (drop len x) at_end)) whole

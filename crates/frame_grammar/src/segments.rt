@@ -1,9 +1,9 @@
 //! The size of a relay's pipe.
 
 ghost use Rattle.std.specs.Prelude.{◌≡◌, ◌≤◌, ◌+◌, ◌*◌};
-ghost use Rattle.frame_model.specs.Job.{IsInRange, segments};
+ghost use Rattle.frame_grammar.specs.Job.{IsInRange, segments};
 
-use frame_model::Job;
+use crate::job::Job;
 
 /// How many segments a relay's pipe has: enough for the greatest payload with its head and for a writer's pause, and three more.
 pub fn segments_of(job: &Job) -> usize

@@ -3,10 +3,9 @@ use Rattle.std.proofs.Common.{◌≢◌, ℕ, true, false, List, [], ◌∷◌, 
 use Rattle.frame_model.specs.declared.framing.Framing.{Framing}
 use Rattle.frame_model.specs.declared.framing.Framing.TheVariants.{Len4, Len2, Line}
 use Rattle.frame_model.specs.declared.framing.BadKind.{BadKind}
-use Rattle.frame_model.specs.declared.job.Job.{Job}
 use Rattle.frame_model.specs.Spelling.{text}
 use Rattle.frame_model.specs.Cut.{Front, Whole, Refused, Partial, front, frames, Verdict, Open, End, Rest, Bad, verdict_on, cut}
-use Rattle.frame_model.specs.Translation.{spellable, from_unspellable, verdict_at, translation}
+use Rattle.frame_model.specs.Translation.{spellable, from_unspellable, verdict_at, translation_between}
 
 -- ---- at the end
 
@@ -30,17 +29,14 @@ no_other_at : (output : Framing) (place : ℕ) (left : List (List ℕ)) (v w : V
 no_other_at output place [] v w other differs = differs
 no_other_at output place (p ∷ left) v w other differs = other _ _
 
-abbrev left_of : Job → List (List ℕ) → List (List ℕ)
-left_of job payloads = from_unspellable job.output payloads
+abbrev place_of : Framing → Framing → List (List ℕ) → ℕ
+place_of input output payloads = length (text input (spellable output payloads))
 
-abbrev place_of : Job → List (List ℕ) → ℕ
-place_of job payloads = length (text job.input (spellable job.output payloads))
-
-pub not_open : (job : Job) (x : List ℕ) → (translation job x true).verdict ≢ Open
-not_open job x =
-    let c = cut job.input job.max x true in
-    let rest = (frames job.input job.max x).1 in
-    no_other_at job.output (place_of job c.payloads) (left_of job c.payloads) c.verdict Open (λ at kind e. cc) (cut_not_open job.input (front job.input job.max rest) _ rest)
+pub not_open : (input output : Framing) (max : ℕ) (x : List ℕ) → (translation_between input output max x true).verdict ≢ Open
+not_open input output max x =
+    let c = cut input max x true in
+    let rest = (frames input max x).1 in
+    no_other_at output (place_of input output c.payloads) (from_unspellable output c.payloads) c.verdict Open (λ at kind e. cc) (cut_not_open input (front input max rest) _ rest)
 
 -- ---- before the end
 
@@ -60,15 +56,15 @@ cut_open_or_bad Len4 Partial place rest = open_is
 cut_open_or_bad Len2 Partial place rest = open_is
 cut_open_or_bad Line Partial place rest = open_is
 
-before_end : (job : Job) (x : List ℕ) → IsOpenOrBad (cut job.input job.max x false).verdict
-before_end job x = let rest = (frames job.input job.max x).1 in cut_open_or_bad job.input (front job.input job.max rest) _ rest
+before_end : (input : Framing) (max : ℕ) (x : List ℕ) → IsOpenOrBad (cut input max x false).verdict
+before_end input max x = let rest = (frames input max x).1 in cut_open_or_bad input (front input max rest) _ rest
 
-pub no_end : (job : Job) (x : List ℕ) → (translation job x false).verdict ≢ End
-no_end job x =
-    let c = cut job.input job.max x false in
-    no_other_at job.output (place_of job c.payloads) (left_of job c.payloads) c.verdict End (λ at kind e. cc) (before_end job x).no_end
+pub no_end : (input output : Framing) (max : ℕ) (x : List ℕ) → (translation_between input output max x false).verdict ≢ End
+no_end input output max x =
+    let c = cut input max x false in
+    no_other_at output (place_of input output c.payloads) (from_unspellable output c.payloads) c.verdict End (λ at kind e. cc) (before_end input max x).no_end
 
-pub no_rest : (job : Job) (x : List ℕ) (place : ℕ) → (translation job x false).verdict ≢ Rest place
-no_rest job x place =
-    let c = cut job.input job.max x false in
-    no_other_at job.output (place_of job c.payloads) (left_of job c.payloads) c.verdict (Rest place) (λ at kind e. cc) ((before_end job x).no_rest place)
+pub no_rest : (input output : Framing) (max : ℕ) (x : List ℕ) (place : ℕ) → (translation_between input output max x false).verdict ≢ Rest place
+no_rest input output max x place =
+    let c = cut input max x false in
+    no_other_at output (place_of input output c.payloads) (from_unspellable output c.payloads) c.verdict (Rest place) (λ at kind e. cc) ((before_end input max x).no_rest place)

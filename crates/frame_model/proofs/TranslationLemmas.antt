@@ -3,11 +3,10 @@ use Rattle.std.proofs.Common.{◌≡◌, ℕ, Bool, false, List, [], ◌∷◌, 
 use mathlib.Core.List.{IsPrefix}
 use Rattle.frame_model.specs.declared.framing.Framing.{Framing}
 use Rattle.frame_model.specs.declared.framing.Framing.TheVariants.{Len4, Len2, Line}
-use Rattle.frame_model.specs.declared.job.Job.{Job}
 use Rattle.frame_model.specs.declared.framing.BadKind.{BadKind}
 use Rattle.frame_model.specs.Spelling.{obstacle, spelling, text}
 use Rattle.frame_model.specs.Cut.{Front, Whole, Refused, Partial, front, frames, Verdict, Bad, last_line, verdict_on, cut}
-use Rattle.frame_model.specs.Translation.{spellable, from_unspellable, translation_of, translation}
+use Rattle.frame_model.specs.Translation.{spellable, from_unspellable, translation_of, translation_between}
 use Rattle.frame_model.proofs.FrontLemmas.{front_refused_more}
 use Rattle.frame_model.proofs.FramesLemmas.{continues, frames_refused}
 
@@ -72,9 +71,6 @@ stays input output ps qs v w q r e =
 
 -- ---- the laws
 
-abbrev payloads_of : Job → List ℕ → Bool → List (List ℕ)
-payloads_of job x at_end = (cut job.input job.max x at_end).payloads
-
 -- the payloads of a longer input
 extra : (f : Framing) (max : ℕ) (x z : List ℕ) (at_end : Bool) → (qs : List (List ℕ)) × ((cut f max (x ++ z) at_end).payloads ≡ (cut f max x false).payloads ++ qs)
 extra f max x z at_end =
@@ -83,10 +79,10 @@ extra f max x z at_end =
     let more = (frames f max ((frames f max x).1 ++ z)).0 in
     (more ++ last, rw (no_last f (front f max (frames f max x).1) (frames f max x).1, append_nil (frames f max x).0, c.payloads) (append_assoc (frames f max x).0 more last))
 
-pub grows : (job : Job) (x z : List ℕ) (at_end : Bool) → IsPrefix (translation job x false).text (translation job (x ++ z) at_end).text
-grows job x z at_end =
-    let e = extra job.input job.max x z at_end in
-    rw e.1 (text_prefix job.output (payloads_of job x false) e.0)
+pub grows : (input output : Framing) (max : ℕ) (x z : List ℕ) (at_end : Bool) → IsPrefix (translation_between input output max x false).text (translation_between input output max (x ++ z) at_end).text
+grows input output max x z at_end =
+    let e = extra input max x z at_end in
+    rw e.1 (text_prefix output (cut input max x false).payloads e.0)
 
 -- an input that is refused at its rest is cut alike whatever comes
 same_cut : (f : Framing) (max : ℕ) (x z : List ℕ) (at_end : Bool) (kind : BadKind) → front f max (frames f max x).1 ≡ Refused kind → cut f max (x ++ z) at_end ≡ cut f max x false
@@ -98,14 +94,14 @@ same_cut f max x z at_end kind e =
     let rest : (frames f max (x ++ z)).1 ≡ (frames f max x).1 ++ z = rw stops at c.rest in
     rw (payloads, rest, refused, e, no_last_refused f kind at_end ((frames f max x).1 ++ z), no_last_refused f kind false (frames f max x).1) refl
 
-pub bad_stays : (job : Job) (x z : List ℕ) (at_end : Bool) (place : ℕ) (kind : BadKind) → (translation job x false).verdict ≡ Bad place kind → translation job (x ++ z) at_end ≡ translation job x false
-bad_stays job x z at_end place kind bad = by_rest (from_unspellable job.output (payloads_of job x false)) refl
+pub bad_stays : (input output : Framing) (max : ℕ) (x z : List ℕ) (at_end : Bool) (place : ℕ) (kind : BadKind) → (translation_between input output max x false).verdict ≡ Bad place kind → translation_between input output max (x ++ z) at_end ≡ translation_between input output max x false
+bad_stays input output max x z at_end place kind bad = by_rest (from_unspellable output (cut input max x false).payloads) refl
   where
-    by_rest : (left : List (List ℕ)) → from_unspellable job.output (payloads_of job x false) ≡ left → translation job (x ++ z) at_end ≡ translation job x false
+    by_rest : (left : List (List ℕ)) → from_unspellable output (cut input max x false).payloads ≡ left → translation_between input output max (x ++ z) at_end ≡ translation_between input output max x false
     by_rest [] e =
         let said = rw e at bad in
-        let refused = bad_is_refused job.input _ _ _ _ _ said in
-        ap (λ c. translation_of job.input job.output c.payloads c.verdict) (same_cut job.input job.max x z at_end kind refused)
+        let refused = bad_is_refused input _ _ _ _ _ said in
+        ap (λ c. translation_of input output c.payloads c.verdict) (same_cut input max x z at_end kind refused)
     by_rest (q ∷ r) e =
-        let more = extra job.input job.max x z at_end in
-        rw more.1 (stays job.input job.output (payloads_of job x false) more.0 _ _ q r e)
+        let more = extra input max x z at_end in
+        rw more.1 (stays input output (cut input max x false).payloads more.0 _ _ q r e)

@@ -1,6 +1,3 @@
 pub mod Spelling
 pub mod Cut
 pub mod Translation
-pub mod Ending
-pub mod Cases
-pub mod Job

@@ -3,11 +3,8 @@
 ghost use Rattle.std.specs.Prelude.{◌≡◌, ◌++◌, ◌∷◌, [], ◌^◌, ◌-◌, ℕ, List, replicate, Some, true, false};
 ghost use Rattle.frame_model.specs.Spelling.{spelling, obstacle};
 ghost use Rattle.frame_model.specs.Cut.{front, Whole, Refused, Partial, cut, Open, End, Rest, Bad};
-ghost use Rattle.frame_model.specs.Translation.{translation};
-ghost use Rattle.frame_model.specs.Ending.{outcome_of, status_of, frames_written};
-ghost use Rattle.frame_model.specs.Cases.{job};
+ghost use Rattle.frame_model.specs.Translation.{translation_between};
 
-use crate::ending::FillEnd;
 use crate::framing::{BadKind, Framing};
 
 /// Frames of each framing, and payloads that have none.
@@ -36,45 +33,31 @@ pub fn cut_cases()
 
 /// Whole inputs and their translations.
 pub fn translation_cases()
-    ensures one { translation (job Framing.Len4 Framing.Line 65536) (0 ∷ 0 ∷ 0 ∷ 2 ∷ 104 ∷ 105 ∷ []) true ≡ record { text = 104 ∷ 105 ∷ 10 ∷ []; verdict = End } }
-    ensures nothing { translation (job Framing.Len4 Framing.Line 65536) [] true ≡ record { text = []; verdict = End } }
-    ensures empty_payload { translation (job Framing.Len4 Framing.Line 65536) (0 ∷ 0 ∷ 0 ∷ 0 ∷ []) true ≡ record { text = 10 ∷ []; verdict = End } }
-    ensures two { translation (job Framing.Len4 Framing.Line 65536) (0 ∷ 0 ∷ 0 ∷ 2 ∷ 104 ∷ 105 ∷ 0 ∷ 0 ∷ 0 ∷ 1 ∷ 97 ∷ []) true
+    ensures one { translation_between Framing.Len4 Framing.Line 65536 (0 ∷ 0 ∷ 0 ∷ 2 ∷ 104 ∷ 105 ∷ []) true ≡ record { text = 104 ∷ 105 ∷ 10 ∷ []; verdict = End } }
+    ensures nothing { translation_between Framing.Len4 Framing.Line 65536 [] true ≡ record { text = []; verdict = End } }
+    ensures empty_payload { translation_between Framing.Len4 Framing.Line 65536 (0 ∷ 0 ∷ 0 ∷ 0 ∷ []) true ≡ record { text = 10 ∷ []; verdict = End } }
+    ensures two { translation_between Framing.Len4 Framing.Line 65536 (0 ∷ 0 ∷ 0 ∷ 2 ∷ 104 ∷ 105 ∷ 0 ∷ 0 ∷ 0 ∷ 1 ∷ 97 ∷ []) true
         ≡ record { text = 104 ∷ 105 ∷ 10 ∷ 97 ∷ 10 ∷ []; verdict = End } }
-    ensures unended_line { translation (job Framing.Line Framing.Len2 65536) (97 ∷ 13 ∷ 10 ∷ 98 ∷ []) true
+    ensures unended_line { translation_between Framing.Line Framing.Len2 65536 (97 ∷ 13 ∷ 10 ∷ 98 ∷ []) true
         ≡ record { text = 0 ∷ 2 ∷ 97 ∷ 13 ∷ 0 ∷ 1 ∷ 98 ∷ []; verdict = End } }
-    ensures line_feed_within { translation (job Framing.Len4 Framing.Line 65536) (0 ∷ 0 ∷ 0 ∷ 1 ∷ 97 ∷ 0 ∷ 0 ∷ 0 ∷ 2 ∷ 97 ∷ 10 ∷ 0 ∷ 0 ∷ 0 ∷ 1 ∷ 98 ∷ []) true
+    ensures line_feed_within { translation_between Framing.Len4 Framing.Line 65536 (0 ∷ 0 ∷ 0 ∷ 1 ∷ 97 ∷ 0 ∷ 0 ∷ 0 ∷ 2 ∷ 97 ∷ 10 ∷ 0 ∷ 0 ∷ 0 ∷ 1 ∷ 98 ∷ []) true
         ≡ record { text = 97 ∷ 10 ∷ []; verdict = Bad 5 (BadKind.Unspellable 1) } }
-    ensures rest { translation (job Framing.Len4 Framing.Line 65536) (0 ∷ 0 ∷ 0 ∷ 5 ∷ 104 ∷ []) true ≡ record { text = []; verdict = Rest 0 } }
-    ensures part_of_head { translation (job Framing.Len4 Framing.Line 65536) (0 ∷ 0 ∷ []) true ≡ record { text = []; verdict = Rest 0 } }
-    ensures broken_off { translation (job Framing.Len4 Framing.Line 65536) (0 ∷ 0 ∷ 0 ∷ 1 ∷ 97 ∷ 0 ∷ 0 ∷ []) false ≡ record { text = 97 ∷ 10 ∷ []; verdict = Open } }
-    ensures bad_follows { translation (job Framing.Len4 Framing.Line 65536) (0 ∷ 0 ∷ 0 ∷ 5 ∷ 104 ∷ 101 ∷ 108 ∷ 108 ∷ 111 ∷ 0 ∷ 2 ∷ 0 ∷ 0 ∷ []) true
+    ensures rest { translation_between Framing.Len4 Framing.Line 65536 (0 ∷ 0 ∷ 0 ∷ 5 ∷ 104 ∷ []) true ≡ record { text = []; verdict = Rest 0 } }
+    ensures part_of_head { translation_between Framing.Len4 Framing.Line 65536 (0 ∷ 0 ∷ []) true ≡ record { text = []; verdict = Rest 0 } }
+    ensures broken_off { translation_between Framing.Len4 Framing.Line 65536 (0 ∷ 0 ∷ 0 ∷ 1 ∷ 97 ∷ 0 ∷ 0 ∷ []) false ≡ record { text = 97 ∷ 10 ∷ []; verdict = Open } }
+    ensures bad_follows { translation_between Framing.Len4 Framing.Line 65536 (0 ∷ 0 ∷ 0 ∷ 5 ∷ 104 ∷ 101 ∷ 108 ∷ 108 ∷ 111 ∷ 0 ∷ 2 ∷ 0 ∷ 0 ∷ []) true
         ≡ record { text = 104 ∷ 101 ∷ 108 ∷ 108 ∷ 111 ∷ 10 ∷ []; verdict = Bad 9 (BadKind.TooBig 131072) } }
-    ensures long_line { translation (job Framing.Line Framing.Line 2) (97 ∷ 98 ∷ 10 ∷ 97 ∷ 98 ∷ 99 ∷ []) true
+    ensures long_line { translation_between Framing.Line Framing.Line 2 (97 ∷ 98 ∷ 10 ∷ 97 ∷ 98 ∷ 99 ∷ []) true
         ≡ record { text = 97 ∷ 98 ∷ 10 ∷ []; verdict = Bad 3 (BadKind.TooBig 3) } }
-    ensures too_big { translation (job Framing.Len4 Framing.Line 65536) (0 ∷ 1 ∷ 0 ∷ 1 ∷ []) true ≡ record { text = []; verdict = Bad 0 (BadKind.TooBig 65537) } }
+    ensures too_big { translation_between Framing.Len4 Framing.Line 65536 (0 ∷ 1 ∷ 0 ∷ 1 ∷ []) true ≡ record { text = []; verdict = Bad 0 (BadKind.TooBig 65537) } }
 {}
 
 /// The greatest payloads, and one that a shorter head can't tell.
 pub fn greatest_payload_cases()
-    ensures line { translation (job Framing.Len4 Framing.Line 65536) (0 ∷ 1 ∷ 0 ∷ 0 ∷ replicate 65536 97) true
+    ensures line { translation_between Framing.Len4 Framing.Line 65536 (0 ∷ 1 ∷ 0 ∷ 0 ∷ replicate 65536 97) true
         ≡ record { text = replicate 65536 97 ++ 10 ∷ []; verdict = End } }
-    ensures too_long { translation (job Framing.Len4 Framing.Len2 65536) (0 ∷ 1 ∷ 0 ∷ 0 ∷ replicate 65536 97) true
+    ensures too_long { translation_between Framing.Len4 Framing.Len2 65536 (0 ∷ 1 ∷ 0 ∷ 0 ∷ replicate 65536 97) true
         ≡ record { text = []; verdict = Bad 0 (BadKind.Unspellable 65535) } }
-    ensures just_fits { translation (job Framing.Len4 Framing.Len2 65536) (0 ∷ 0 ∷ 255 ∷ 255 ∷ replicate 65535 97) true
+    ensures just_fits { translation_between Framing.Len4 Framing.Len2 65536 (0 ∷ 0 ∷ 255 ∷ 255 ∷ replicate 65535 97) true
         ≡ record { text = 255 ∷ 255 ∷ replicate 65535 97; verdict = End } }
-{}
-
-/// Which status stands for which end: a failed write before a bad frame, a bad frame before a failed read, and so on.
-pub fn ending_cases()
-    ensures whole { status_of (outcome_of false FillEnd.End End) ≡ 0 }
-    ensures bad { status_of (outcome_of false FillEnd.End (Bad 5 (BadKind.Unspellable 1))) ≡ 2 }
-    ensures bad_and_gone { status_of (outcome_of false (FillEnd.Gone 2) (Bad 5 (BadKind.Unspellable 1))) ≡ 2 }
-    ensures rest { status_of (outcome_of false FillEnd.End (Rest 0)) ≡ 3 }
-    ensures read_fault { status_of (outcome_of false FillEnd.Fault Open) ≡ 4 }
-    ensures write_fault { status_of (outcome_of true FillEnd.End (Bad 9 (BadKind.TooBig 131072))) ≡ 5 }
-    ensures too_long { status_of (outcome_of false FillEnd.Long Open) ≡ 7 }
-    ensures bad_before_a_fault { status_of (outcome_of false FillEnd.Fault (Bad 0 (BadKind.TooBig 3))) ≡ 2 }
-    ensures none_written { frames_written Framing.Line ((104 ∷ 101 ∷ 108 ∷ 108 ∷ 111 ∷ []) ∷ []) (104 ∷ 101 ∷ 108 ∷ []) 1 ≡ 0 }
-    ensures all_written { frames_written Framing.Line ((104 ∷ 105 ∷ []) ∷ (97 ∷ []) ∷ []) (104 ∷ 105 ∷ 10 ∷ 97 ∷ 10 ∷ []) 2 ≡ 2 }
 {}

@@ -7,10 +7,11 @@ use Rattle.std.proofs.lemmas.Bool.{ltb-false, leb-false, le-ltb, and_cases}
 use Rattle.frame_model.specs.declared.framing.Framing.{Framing}
 use Rattle.frame_model.specs.declared.framing.Framing.TheVariants.{Len4, Len2, Line}
 use Rattle.frame_model.specs.declared.framing.BadKind.{BadKind}
-use Rattle.frame_model.specs.declared.job.Job.{Job}
+use Rattle.frame_grammar.specs.declared.job.Job.{Job}
 use Rattle.frame_model.specs.Spelling.{is_line_feed, obstacle, spelling, text}
 use Rattle.frame_model.specs.Cut.{Cutting, Verdict, Open, End, Rest, Bad, Whole, Refused, Partial, counted_front, cut, front, line_front, moved, verdict_on}
-use Rattle.frame_model.specs.Translation.{from_unspellable, spellable, translation, verdict_at}
+use Rattle.frame_model.specs.Translation.{from_unspellable, spellable, verdict_at}
+use Rattle.frame_grammar.specs.Job.{translation}
 use Rattle.frame_model.proofs.FrontLemmas.{IsCounted, IsLine, chosen, counted_is, front_empty, line_is, number_of}
 use Rattle.frame_model.proofs.LongestLemmas.{front_again}
 use Rattle.frame_model.proofs.CutLemmas.{cut_partial, cut_refused, cut_whole}

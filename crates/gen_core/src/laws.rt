@@ -4,9 +4,9 @@ ghost use Rattle.std.specs.Prelude.{◌≡◌, ◌≢◌, true, ◌*◌, ◌≤�
 ghost use Rattle.std.specs.List.{AllByRecursion};
 ghost use Rattle.frame_model.specs.declared.framing.Framing.{Framing};
 ghost use Rattle.frame_model.specs.Spelling.{obstacle, text};
-ghost use Rattle.frame_model.specs.declared.job.Job.{Job};
+ghost use Rattle.frame_grammar.specs.declared.job.Job.{Job};
 ghost use Rattle.frame_model.specs.Cut.{Rest};
-ghost use Rattle.frame_model.specs.Translation.{translation};
+ghost use Rattle.frame_grammar.specs.Job.{translation};
 ghost use Rattle.gen_core.specs.Generator.{input, payloads};
 
 /// Each payload has a frame in each framing, and at most 95 bytes.

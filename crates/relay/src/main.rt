@@ -5,7 +5,7 @@ mod help;
 
 use edge_core::{Doors, ReadEdge, Sink, Source, WriteEdge, write_all};
 use help::{HELP, VERSION};
-use relay_top::relay_main;
+use relay_top::{Status, relay_main};
 use socket_edge::RealDoors;
 use std::alloc::Global;
 use std::io::BufReader;
@@ -14,26 +14,18 @@ use std::sync::Wait;
 use std::thread::Threads;
 use std::{env, io};
 
-/// The status of words that can't be had as text, or are too many.
-const USAGE: u8 = 1;
-
 /// How many bytes of standard input are asked for at once.
 const READ_AHEAD: usize = 65_536;
 
 /// So many words are too many for a command.
 const TOO_MANY: usize = 1 << 32;
 
-/// The status where a text can't be written to standard output.
-const WRITE_FAULT: u8 = 5;
-
-/// The status where there is no memory for the words or for the buffer of standard input.
-const OUT_OF_MEMORY: u8 = 6;
-
 fn main(rt: HostRuntime) -> ExitCode {
     let mut output = WriteEdge::new(rt.stdout());
     let mut faults = WriteEdge::new(rt.stderr());
     let Ok(stdin) = BufReader::with_capacity(rt.alloc(), READ_AHEAD, rt.stdin()) else {
-        return ExitCode::from(tell(&mut faults, "out of memory\n", OUT_OF_MEMORY));
+        let status = tell(&mut faults, "out of memory\n", Status::OutOfMemory);
+        return ExitCode::from(status.number());
     };
     let mut input = ReadEdge::new(stdin);
     let mut doors = RealDoors::new(rt);
@@ -48,11 +40,11 @@ fn main(rt: HostRuntime) -> ExitCode {
             &mut doors,
         ),
         Err(error) if error.kind() == io::ErrorKind::OutOfMemory => {
-            tell(&mut faults, "out of memory\n", OUT_OF_MEMORY)
+            tell(&mut faults, "out of memory\n", Status::OutOfMemory)
         }
-        Err(_) => tell(&mut faults, "usage: a word is not text\n", USAGE),
+        Err(_) => tell(&mut faults, "usage: a word is not text\n", Status::Usage),
     };
-    ExitCode::from(status)
+    ExitCode::from(status.number())
 }
 
 /// Does what the words ask for, and answers the status.
@@ -64,9 +56,9 @@ fn run<R: Wait + Threads + Sync, S: Source + Send, K: Sink + Send, E: Sink, D: D
     output: &mut K,
     faults: &mut E,
     doors: &mut D,
-) -> u8 {
+) -> Status {
     if words.len() >= TOO_MANY {
-        return tell(faults, "usage: too many words\n", USAGE);
+        return tell(faults, "usage: too many words\n", Status::Usage);
     }
     match only_word(words) {
         Some("--help") => print(output, HELP),
@@ -92,15 +84,15 @@ fn only_word(words: &[String]) -> Option<&str> {
 }
 
 /// Writes what was asked for, and answers the status.
-fn print<K: Sink>(output: &mut K, text: &str) -> u8 {
+fn print<K: Sink>(output: &mut K, text: &str) -> Status {
     if write_all(output, text.as_bytes()).is_err() {
-        return WRITE_FAULT;
+        return Status::WriteFault;
     }
-    0
+    Status::Clean
 }
 
 /// Tells of a fault, as far as that can be written, and answers its status.
-fn tell<K: Sink>(faults: &mut K, line: &str, status: u8) -> u8 {
+fn tell<K: Sink>(faults: &mut K, line: &str, status: Status) -> Status {
     let _ = write_all(faults, line.as_bytes());
     status
 }

@@ -6,7 +6,7 @@ use Rattle.std.proofs.lemmas.List.{append-nil, get_or-take, length-take, take_al
 use Rattle.std.proofs.lemmas.List.Sums.{fails_before_first}
 use Rattle.frame_model.specs.declared.framing.Framing.{Framing}
 use Rattle.frame_model.specs.declared.framing.Framing.TheVariants.{Line}
-use Rattle.frame_model.specs.declared.job.Job.{Job}
+use Rattle.frame_grammar.specs.declared.job.Job.{Job}
 use Rattle.frame_model.specs.Cut.{Whole, Refused, Partial, cut, front, last_line, line_front}
 use Rattle.frame_model.specs.Spelling.{is_line_feed, spelling}
 use Rattle.frame_model.proofs.CutLemmas.{cut_partial, cut_refused, cut_whole}

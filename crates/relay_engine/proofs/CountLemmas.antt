@@ -12,11 +12,12 @@ use Rattle.std.proofs.Math.Seq.{take-append-add, take-append_seam}
 use mathlib.Core.List.{IsPrefix}
 use Rattle.frame_model.specs.declared.framing.Framing.{Framing}
 use Rattle.frame_model.specs.declared.framing.Framing.TheVariants.{Len4, Len2, Line}
-use Rattle.frame_model.specs.declared.job.Job.{Job}
+use Rattle.frame_grammar.specs.declared.job.Job.{Job}
 use Rattle.frame_model.specs.Spelling.{obstacle, spelling, text}
 use Rattle.frame_model.specs.Cut.{Front, Whole, Refused, Partial, front, frames, last_line}
-use Rattle.frame_model.specs.Translation.{spellable, translation}
-use Rattle.frame_model.specs.Ending.{frames_written}
+use Rattle.frame_model.specs.Translation.{spellable}
+use Rattle.frame_grammar.specs.Job.{translation}
+use Rattle.relay_model.specs.Ending.{frames_written}
 use Rattle.frame_model.proofs.FramesLemmas.{continues}
 use Rattle.relay_model.specs.Run.{frames_in, payloads_of}
 

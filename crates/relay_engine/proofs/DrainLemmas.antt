@@ -9,11 +9,12 @@ use Rattle.std.proofs.lemmas.Bool.{cases_lt}
 use Rattle.std.proofs.lemmas.List.{length-append, length-drop, length-take, take-append-drop, drop-append-le, drop-drop, take-append-le, take_all}
 use Rattle.frame_model.specs.declared.framing.Framing.{Framing}
 use Rattle.frame_model.specs.declared.framing.Framing.TheVariants.{Len4, Len2, Line}
-use Rattle.frame_model.specs.declared.job.Job.{Job}
+use Rattle.frame_grammar.specs.declared.job.Job.{Job}
 use Rattle.frame_model.specs.Spelling.{is_line_feed, spelling, text as text_of}
 use Rattle.frame_model.specs.Cut.{Verdict, Open, Rest, Bad, moved}
-use Rattle.frame_model.specs.Translation.{translation, behind}
-use Rattle.frame_model.specs.Ending.{frames_written}
+use Rattle.frame_model.specs.Translation.{behind}
+use Rattle.frame_grammar.specs.Job.{translation}
+use Rattle.relay_model.specs.Ending.{frames_written}
 use Rattle.frame_model.proofs.EndLemmas.{not_open}
 use Rattle.frame_model.proofs.FrameLemmas.{spelling_len}
 use Rattle.relay_model.specs.Run.{frames_in, payloads_of}
@@ -261,7 +262,7 @@ at_end_so job ended rest v told never = elim (bool_cases (is_success ended)) [
 
 pub open_so : (job : Job) (code : ℕ) (rest : List ℕ) → translation job rest (is_success (Some code)) ≡ record { text = []; verdict = Open } → code ≢ 0
 open_so job code rest told = elim (bool_cases (is_success (Some code))) [
-  | inl whole ↦ absurd (not_open job rest (ap (λ t. t.verdict) (sym (ap (λ (b : Bool). translation job rest b) whole) ∙ told)))
+  | inl whole ↦ absurd (not_open job.input job.output job.max rest (ap (λ t. t.verdict) (sym (ap (λ (b : Bool). translation job rest b) whole) ∙ told)))
   | inr part ↦ failure_is code part
 ]
 

@@ -6,9 +6,9 @@ use Rattle.std.specs.Io.KnownBytes.{Appends}
 use Rattle.std.proofs.KnownBytes.{Appends-trans}
 use Rattle.edge_core.specs.Device.{SinkState, Takes}
 use Rattle.edge_core.proofs.DeviceLemmas.{Takes-trans}
-use Rattle.frame_model.specs.declared.job.Job.{Job}
+use Rattle.frame_grammar.specs.declared.job.Job.{Job}
 use Rattle.frame_model.specs.Cut.{End, Rest}
-use Rattle.frame_model.specs.Translation.{translation}
+use Rattle.frame_grammar.specs.Job.{translation}
 use Rattle.frame_model.proofs.EndLemmas.{no_end, no_rest}
 use Rattle.pipe_core.specs.declared.reply.ReadReply.{ReadReply}
 use Rattle.pipe_core.specs.declared.reply.ReadReply.TheVariants as read
@@ -49,9 +49,9 @@ ends_as : (job : Job) (ended : Option ℕ) (place : ℕ) (stop : Stop) (end : Dr
 ends_as job ended place (stops.Bad kind) end rest told at =
     subst (λ (e : DrainEnd). EndsAs ended place (stops.Bad kind) e) (some_is (ends.Bad place kind) end at) (record { verdict = refl; ended_for = tt; no_fault = refl })
 ends_as job ended place stops.Rest end rest told at =
-    subst (λ (e : DrainEnd). EndsAs ended place stops.Rest e) (some_is (ends.Rest place) end at) (record { verdict = refl; ended_for = at_end_so job ended rest (Rest 0) told (no_rest job rest 0); no_fault = refl })
+    subst (λ (e : DrainEnd). EndsAs ended place stops.Rest e) (some_is (ends.Rest place) end at) (record { verdict = refl; ended_for = at_end_so job ended rest (Rest 0) told (no_rest job.input job.output job.max rest 0); no_fault = refl })
 ends_as job ended place stops.End end rest told at =
-    subst (λ (e : DrainEnd). EndsAs ended place stops.End e) (some_is ends.Clean end at) (record { verdict = refl; ended_for = at_end_so job ended rest End told (no_end job rest); no_fault = refl })
+    subst (λ (e : DrainEnd). EndsAs ended place stops.End e) (some_is ends.Clean end at) (record { verdict = refl; ended_for = at_end_so job ended rest End told (no_end job.input job.output job.max rest); no_fault = refl })
 ends_as job (Some code) place stops.More end rest told at =
     subst (λ (e : DrainEnd). EndsAs (Some code) place stops.More e) (some_is ends.Stopped end at) (record { verdict = refl; ended_for = (code, open_so job code rest told, refl); no_fault = refl })
 ends_as job None place stops.More end rest told at = absurd cc

@@ -3,8 +3,9 @@ use Rattle.std.specs.List.{AllByRecursion}
 use Rattle.std.proofs.Common.{◌≡◌, ◌≢◌, ℕ, Bool, false, List, [], ◌∷◌, ◌++◌, length, Option, Some, None, Ok, Err, IsNone, refl, sym, ap, ◌∙◌, subst, append-nil, append_assoc, arith}
 use Rattle.std.proofs.lemmas.List.{length-append}
 use mathlib.Core.List.{IsPrefix}
-use Rattle.frame_model.specs.declared.job.Job.{Job}
-use Rattle.frame_model.specs.Translation.{Translation, translation}
+use Rattle.frame_grammar.specs.declared.job.Job.{Job}
+use Rattle.frame_model.specs.Translation.{Translation}
+use Rattle.frame_grammar.specs.Job.{translation}
 use Rattle.frame_model.proofs.TranslationLemmas.{bad_stays, grows}
 use Rattle.relay_model.specs.Run.{frames_in}
 use Rattle.pipe_core.specs.History.{Call, Commit, EndWriter, Read, Advance, EndReader, CancelRead, CancelFlush, writer_end, seat_of}
@@ -82,7 +83,7 @@ concludes_longer job frames written h h' text y ends.Stopped none more c = let b
 concludes_longer job frames written h h' text y (ends.Bad place kind) none more c =
     let part = ap (λ (b : Bool). translation job (total h) b) (not_whole (writer_end h) none) in
     let stays : translated job h' ≡ translated job h =
-    ap (λ (x : List ℕ). translation job x (is_whole h')) more ∙ bad_stays job (total h) y (is_whole h') place kind (sym (ap (λ t. t.verdict) part) ∙ c.verdict refl) ∙ sym part in
+    ap (λ (x : List ℕ). translation job x (is_whole h')) more ∙ bad_stays job.input job.output job.max (total h) y (is_whole h') place kind (sym (ap (λ t. t.verdict) part) ∙ c.verdict refl) ∙ sym part in
     record {
       front = subst (λ (t : Translation). IsPrefix text t.text) (sym stays) c.front;
       whole = λ passed. c.whole refl ∙ sym (ap (λ t. t.text) stays);
@@ -94,7 +95,7 @@ concludes_longer job frames written h h' text y (ends.Bad place kind) none more 
     }
 concludes_longer job frames written h h' text y ends.SinkFault none more c =
     let part = ap (λ (b : Bool). (translation job (total h) b).text) (not_whole (writer_end h) none) in
-    let longer = grows job (total h) y (is_whole h') in
+    let longer = grows job.input job.output job.max (total h) y (is_whole h') in
     let grown : IsPrefix (translated job h).text (translated job h').text =
     subst (λ (x : List ℕ). IsPrefix (translated job h).text (translation job x (is_whole h')).text) (sym more)
     (subst (λ (t : List ℕ). IsPrefix t (translation job (total h ++ y) (is_whole h')).text) (sym part) longer) in

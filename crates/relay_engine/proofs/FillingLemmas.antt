@@ -5,8 +5,8 @@ use Rattle.std.proofs.lemmas.List.{length-append}
 use Rattle.std.proofs.KnownBytes.{Consumes-nil}
 use Rattle.std.specs.List.{AllByRecursion}
 use Rattle.edge_core.specs.Device.{SourceState, Gives}
-use Rattle.frame_model.specs.declared.ending.FillEnd.{FillEnd}
-use Rattle.frame_model.specs.declared.ending.FillEnd.TheVariants as taking
+use Rattle.relay_model.specs.declared.ending.FillEnd.{FillEnd}
+use Rattle.relay_model.specs.declared.ending.FillEnd.TheVariants as taking
 use Rattle.pipe_core.specs.declared.reply.FlushReply.{FlushReply}
 use Rattle.pipe_core.specs.declared.reply.FlushReply.TheVariants as flush
 use Rattle.pipe_core.specs.History.{Run, Call, Commit, EndWriter, Read, Advance, EndReader, CancelRead, CancelFlush, bytes_of, seat_of}

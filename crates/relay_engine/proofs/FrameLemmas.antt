@@ -7,10 +7,11 @@ use Rattle.std.proofs.Math.Seq.{drop-length}
 use Rattle.frame_model.specs.declared.framing.Framing.{Framing}
 use Rattle.frame_model.specs.declared.framing.Framing.TheVariants.{Len4, Len2, Line}
 use Rattle.frame_model.specs.declared.framing.BadKind.TheVariants.{Unspellable}
-use Rattle.frame_model.specs.declared.job.Job.{Job}
+use Rattle.frame_grammar.specs.declared.job.Job.{Job}
 use Rattle.frame_model.specs.Spelling.{head_of, obstacle, spelling, tail_of, text}
 use Rattle.frame_model.specs.Cut.{Verdict, Open, End, Rest, Bad, cut, moved, MayCome}
-use Rattle.frame_model.specs.Translation.{Translation, spellable, from_unspellable, verdict_at, translation_of, translation, behind}
+use Rattle.frame_model.specs.Translation.{Translation, spellable, from_unspellable, verdict_at, translation_of, behind}
+use Rattle.frame_grammar.specs.Job.{translation}
 use Rattle.frame_model.proofs.FrontLemmas.{front_empty}
 use Rattle.frame_model.proofs.FrameLemmas.{spelling_len}
 use Rattle.frame_grammar.specs.Answers.{BeginsWithFrame}

@@ -7,10 +7,11 @@ use Rattle.std.proofs.lemmas.Bool.{cases_lt}
 use Rattle.edge_core.specs.Device.{SinkState}
 use Rattle.frame_model.specs.declared.framing.Framing.{Framing}
 use Rattle.frame_model.specs.declared.framing.Framing.TheVariants.{Line}
-use Rattle.frame_model.specs.declared.job.Job.{Job}
+use Rattle.frame_grammar.specs.declared.job.Job.{Job}
 use Rattle.frame_model.specs.Spelling.{head_of, is_line_feed, obstacle, spelling, tail_of, text}
 use Rattle.frame_model.specs.Cut.{Whole, front}
-use Rattle.frame_model.specs.Translation.{translation, behind}
+use Rattle.frame_model.specs.Translation.{behind}
+use Rattle.frame_grammar.specs.Job.{translation}
 use Rattle.frame_model.proofs.FrameLemmas.{frame_at, spelling_len}
 use Rattle.frame_model.proofs.FrontLemmas.{line_from, line_len}
 use Rattle.frame_model.proofs.LongestLemmas.{front_again}

@@ -10,7 +10,7 @@ use Rattle.pipe_core.specs.Legal.{IsLegal}
 use Rattle.pipe_shared.specs.declared.faults.TryFault.{TryFault}
 use Rattle.pipe_shared.specs.declared.faults.TryFault.TheVariants as try
 use Rattle.pipe_shared.specs.Log.{calls_of}
-use Rattle.frame_model.specs.declared.job.Job.{Job}
+use Rattle.frame_grammar.specs.declared.job.Job.{Job}
 use Rattle.pipe_shared.specs.Name.{Name}
 use Rattle.pipe_shared.specs.Turns.{Seat}
 use Rattle.pipe_shared.specs.Ends.{Reader}

@@ -4,8 +4,8 @@ use Rattle.std.specs.Prelude.{IfSome, IsNone, unwrap_or}
 use Rattle.std.specs.List.{AllByRecursion}
 use Rattle.std.proofs.lemmas.List.{length-append}
 use Rattle.edge_core.specs.Device.{SourceState}
-use Rattle.frame_model.specs.declared.ending.FillEnd.{FillEnd}
-use Rattle.frame_model.specs.declared.ending.FillEnd.TheVariants as taking
+use Rattle.relay_model.specs.declared.ending.FillEnd.{FillEnd}
+use Rattle.relay_model.specs.declared.ending.FillEnd.TheVariants as taking
 use Rattle.pipe_core.specs.History.{Run, Call, Commit, bytes_of, EndWriter, Read, Advance, EndReader, CancelRead, CancelFlush, reader_end}
 use Rattle.pipe_core.specs.Legal.{IsLegal}
 use Rattle.pipe_shared.specs.declared.options.Options.{Options}

@@ -2,10 +2,10 @@
 use Rattle.std.proofs.Common.{◌≡◌, ◌≢◌, ◌≤◌, ◌^◌, ℕ, Bool, List, [], ◌++◌, Option, Some, None, refl, ap, ◌∙◌, subst, append-nil}
 use Rattle.std.specs.Prelude.{unwrap_or, option_map}
 use Rattle.edge_core.specs.Device.{SourceState, SinkState}
-use Rattle.frame_model.specs.declared.job.Job.{Job}
-use Rattle.frame_model.specs.declared.ending.FillEnd.{FillEnd}
-use Rattle.frame_model.specs.declared.ending.FillEnd.TheVariants as taking
-use Rattle.frame_model.specs.Ending.{outcome_of}
+use Rattle.frame_grammar.specs.declared.job.Job.{Job}
+use Rattle.relay_model.specs.declared.ending.FillEnd.{FillEnd}
+use Rattle.relay_model.specs.declared.ending.FillEnd.TheVariants as taking
+use Rattle.relay_model.specs.Ending.{outcome_of}
 use Rattle.relay_model.specs.Run.{IsReported, IsTaken}
 use Rattle.pipe_core.specs.History.{Call, writer_end}
 use Rattle.pipe_core.specs.Progress.{total}

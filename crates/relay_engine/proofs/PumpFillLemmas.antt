@@ -5,9 +5,9 @@ use Rattle.std.specs.Prelude.{is_none, option_map, unwrap_or}
 use Rattle.std.proofs.KnownBytes.{Consumes-trans, Consumes-kept}
 use Rattle.std.proofs.lemmas.List.{length-append, take_all}
 use Rattle.edge_core.specs.Device.{SourceState, SinkState, Gives}
-use Rattle.frame_model.specs.declared.job.Job.{Job}
-use Rattle.frame_model.specs.declared.ending.FillEnd.{FillEnd}
-use Rattle.frame_model.specs.declared.ending.FillEnd.TheVariants as taking
+use Rattle.frame_grammar.specs.declared.job.Job.{Job}
+use Rattle.relay_model.specs.declared.ending.FillEnd.{FillEnd}
+use Rattle.relay_model.specs.declared.ending.FillEnd.TheVariants as taking
 use Rattle.frame_model.specs.Spelling.{longest_frame}
 use Rattle.pipe_core.specs.declared.reply.FlushReply.TheVariants as flush
 use Rattle.pipe_core.specs.declared.reply.ReadReply.TheVariants as read

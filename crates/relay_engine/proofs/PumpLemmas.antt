@@ -5,9 +5,9 @@ use Rattle.std.specs.Prelude.{is_none, is_some, option_map, unwrap_or, ◌||◌}
 use Rattle.std.proofs.KnownBytes.{Consumes-nil}
 use Rattle.edge_core.specs.Device.{SourceState, SinkState, Gives, Takes}
 use Rattle.edge_core.proofs.DeviceLemmas.{Takes-trans}
-use Rattle.frame_model.specs.declared.job.Job.{Job}
-use Rattle.frame_model.specs.declared.ending.FillEnd.{FillEnd}
-use Rattle.frame_model.specs.declared.ending.FillEnd.TheVariants as taking
+use Rattle.frame_grammar.specs.declared.job.Job.{Job}
+use Rattle.relay_model.specs.declared.ending.FillEnd.{FillEnd}
+use Rattle.relay_model.specs.declared.ending.FillEnd.TheVariants as taking
 use Rattle.frame_model.specs.declared.framing.Framing.{Framing}
 use Rattle.frame_model.specs.declared.framing.Framing.TheVariants.{Len4, Len2, Line}
 use Rattle.frame_model.specs.Spelling.{longest_frame}

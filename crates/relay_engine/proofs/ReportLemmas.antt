@@ -4,14 +4,14 @@ use Rattle.std.proofs.lemmas.List.{length-append}
 use Rattle.std.specs.Io.KnownBytes.{Appends}
 use mathlib.Core.List.{IsPrefix}
 use Rattle.edge_core.specs.Device.{SourceState, SinkState, HasRisen}
-use Rattle.frame_model.specs.declared.job.Job.{Job}
+use Rattle.frame_grammar.specs.declared.job.Job.{Job}
 use Rattle.frame_model.specs.declared.framing.BadKind.{BadKind}
-use Rattle.frame_model.specs.declared.ending.FillEnd.{FillEnd}
-use Rattle.frame_model.specs.declared.ending.FillEnd.TheVariants as taking
-use Rattle.frame_model.specs.declared.ending.Report.{Report}
+use Rattle.relay_model.specs.declared.ending.FillEnd.{FillEnd}
+use Rattle.relay_model.specs.declared.ending.FillEnd.TheVariants as taking
+use Rattle.relay_model.specs.declared.ending.Report.{Report}
 use Rattle.frame_model.specs.Cut.{Verdict, Bad}
-use Rattle.frame_model.specs.Translation.{translation}
-use Rattle.frame_model.specs.Ending.{is_at_end, outcome_of, status_of}
+use Rattle.frame_grammar.specs.Job.{translation}
+use Rattle.relay_model.specs.Ending.{EndsEarly, is_at_end, outcome_of}
 use Rattle.frame_model.proofs.TranslationLemmas.{bad_stays, grows}
 use Rattle.relay_model.specs.Run.{IsReported, IsTaken, frames_in}
 use Rattle.pipe_core.specs.History.{Call, writer_end}
@@ -52,7 +52,7 @@ pub record Stands (job : Job) (x : List ℕ) (fill : FillEnd) (found : List Call
   pub same : is_sink_fault end ≡ false → translated job found ≡ translation job x (is_at_end fill)
   pub frames : frames_in job (total found) (is_whole found) text ≡ frames_in job x (is_at_end fill) text
   pub within : length (total found) ≤ length x
-  pub gone : (code : ℕ) → fill ≡ taking.Gone code → (status_of (outcome_of (is_sink_fault end) fill (translation job x (is_at_end fill)).verdict) ≡ 2) ⊎ (status_of (outcome_of (is_sink_fault end) fill (translation job x (is_at_end fill)).verdict) ≡ 5)
+  pub gone : (code : ℕ) → fill ≡ taking.Gone code → EndsEarly (outcome_of (is_sink_fault end) fill (translation job x (is_at_end fill)).verdict)
 
 pub of_all : (job : Job) (frames told : ℕ) (x : List ℕ) (fill : FillEnd) (found : List Call) (text : List ℕ) (end : DrainEnd) → Concludes job frames told found text end → SawAll x fill found → Stands job x fill found text end
 of_all job frames told x fill found text end concludes saw = record {
@@ -108,7 +108,7 @@ of_front job frames told x fill found text end concludes saw = record {
     front = subst (λ t. IsPrefix text t.text) first concludes.front
 
     more : IsPrefix (translation job (total found) false).text (translation job x (is_at_end fill)).text
-    more = subst (λ (l : List ℕ). IsPrefix (translation job (total found) false).text (translation job l (is_at_end fill)).text) saw.parts (grows job (total found) saw.more (is_at_end fill))
+    more = subst (λ (l : List ℕ). IsPrefix (translation job (total found) false).text (translation job l (is_at_end fill)).text) saw.parts (grows job.input job.output job.max (total found) saw.more (is_at_end fill))
 
     cause : IsBad end ⊎ (is_sink_fault end ≡ true)
     cause = bad_or_failed end (writer_end found) saw.going concludes.ended
@@ -117,7 +117,7 @@ of_front job frames told x fill found text end concludes saw = record {
     verdict bad = sym (ap (λ t. t.verdict) first) ∙ concludes.verdict bad.passed ∙ bad.verdict
 
     stays : IsBad end → translation job x (is_at_end fill) ≡ translation job (total found) false
-    stays bad = ap (λ (l : List ℕ). translation job l (is_at_end fill)) (sym saw.parts) ∙ bad_stays job (total found) saw.more (is_at_end fill) bad.place bad.kind (verdict bad)
+    stays bad = ap (λ (l : List ℕ). translation job l (is_at_end fill)) (sym saw.parts) ∙ bad_stays job.input job.output job.max (total found) saw.more (is_at_end fill) bad.place bad.kind (verdict bad)
 
 -- what a sink gained, and whether a call of it failed
 pub record Gained (end : DrainEnd) (before : SinkState) (gain : List ℕ) (after : SinkState) : Type 0 where

@@ -5,9 +5,9 @@ use Rattle.std.proofs.lemmas.List.{drop-drop, length-append, length-drop, length
 use Rattle.std.proofs.Math.Seq.{take-append-add, take-append_seam}
 use mathlib.Core.List.{IsPrefix}
 use Rattle.edge_core.specs.Device.{SinkState, Takes}
-use Rattle.frame_model.specs.declared.job.Job.{Job}
+use Rattle.frame_grammar.specs.declared.job.Job.{Job}
 use Rattle.frame_model.specs.Spelling.{spelling}
-use Rattle.frame_model.specs.Translation.{translation}
+use Rattle.frame_grammar.specs.Job.{translation}
 use Rattle.relay_engine.specs.Frames.{Breaks, CountsWhole, Drains, Interrupts, IsFirst, Passes, StopsAt, capped}
 use Rattle.relay_engine.specs.Gathering.{Gathered, Puts, PutsFront, begun, counted}
 use Rattle.relay_engine.specs.declared.frames.Stop.{Stop}

@@ -1,10 +1,11 @@
 -- What a step of a drainer does.
 use Rattle.std.specs.Prelude.{ℕ, ◌≡◌, ◌<◌, ◌≤◌, ◌==◌, Bool, false, List, [], length, take, drop, Option, Some, None, position, IsNone}
-use Rattle.frame_model.specs.declared.job.Job.{Job}
+use Rattle.frame_grammar.specs.declared.job.Job.{Job}
 use Rattle.frame_model.specs.declared.framing.Framing.TheVariants.{Line}
 use Rattle.frame_model.specs.Spelling.{is_line_feed, longest_frame}
 use Rattle.frame_model.specs.Cut.{Open}
-use Rattle.frame_model.specs.Translation.{Translation, translation}
+use Rattle.frame_model.specs.Translation.{Translation}
+use Rattle.frame_grammar.specs.Job.{translation}
 use Rattle.pipe_core.specs.History.{Call, writer_end}
 use Rattle.pipe_core.specs.Progress.{total, consumed, examined}
 use Rattle.relay_engine.specs.Frames.{Passes, capped}

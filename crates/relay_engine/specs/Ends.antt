@@ -2,8 +2,8 @@
 use Rattle.std.specs.Prelude.{ℕ, ◌≡◌, ◌<◌, ◌≤◌, List, [], length, take, Result, Ok, Err, Option, Some, None}
 use Rattle.std.specs.Io.KnownBytes.{IsAtEnd}
 use Rattle.edge_core.specs.Device.{SourceState, Gives, Fails}
-use Rattle.frame_model.specs.declared.ending.FillEnd.{FillEnd}
-use Rattle.frame_model.specs.declared.ending.FillEnd.TheVariants as taking
+use Rattle.relay_model.specs.declared.ending.FillEnd.{FillEnd}
+use Rattle.relay_model.specs.declared.ending.FillEnd.TheVariants as taking
 use Rattle.pipe_core.specs.declared.reply.ReadReply.{ReadReply}
 use Rattle.pipe_core.specs.declared.reply.ReadReply.TheVariants as read
 

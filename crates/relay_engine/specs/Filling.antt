@@ -2,8 +2,8 @@
 use Rattle.std.specs.Prelude.{ℕ, ◌≡◌, ◌<◌, ◌≤◌, ◌+◌, ◌==◌, ◌⊎◌, Bool, true, false, List, [], ◌∷◌, ◌++◌, length, Option, Some, None, Result, Ok, Err}
 use Rattle.std.specs.Io.KnownBytes.{IsAtEnd}
 use Rattle.edge_core.specs.Device.{SourceState, Gives, Fails}
-use Rattle.frame_model.specs.declared.ending.FillEnd.{FillEnd}
-use Rattle.frame_model.specs.declared.ending.FillEnd.TheVariants as taking
+use Rattle.relay_model.specs.declared.ending.FillEnd.{FillEnd}
+use Rattle.relay_model.specs.declared.ending.FillEnd.TheVariants as taking
 use Rattle.pipe_core.specs.declared.reply.FlushReply.{FlushReply}
 use Rattle.pipe_core.specs.declared.reply.FlushReply.TheVariants as flush
 use Rattle.pipe_core.specs.History.{Run, Call, Commit, bytes_of}

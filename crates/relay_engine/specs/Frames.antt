@@ -3,11 +3,12 @@ use Rattle.std.specs.Prelude.{ℕ, ◌≡◌, ◌<◌, ◌≤◌, ◌*◌, ◌-�
 use Rattle.std.specs.Io.KnownBytes.{Appends}
 use mathlib.Core.List.{IsPrefix}
 use Rattle.edge_core.specs.Device.{SinkState, Takes, HasRisen}
-use Rattle.frame_model.specs.declared.job.Job.{Job}
+use Rattle.frame_grammar.specs.declared.job.Job.{Job}
 use Rattle.frame_model.specs.declared.framing.Framing.TheVariants.{Line}
 use Rattle.frame_model.specs.Spelling.{is_line_feed, longest_frame, obstacle, spelling, text as text_of}
 use Rattle.frame_model.specs.Cut.{Verdict, Open, End, Rest, Bad, MayCome}
-use Rattle.frame_model.specs.Translation.{translation, behind}
+use Rattle.frame_model.specs.Translation.{behind}
+use Rattle.frame_grammar.specs.Job.{translation}
 use Rattle.relay_model.specs.Run.{payloads_of}
 use Rattle.relay_engine.specs.declared.frames.Stop.{Stop}
 use Rattle.relay_engine.specs.declared.frames.Stop.TheVariants as stops

@@ -1,9 +1,9 @@
 -- How a relay on one thread goes on.
 use Rattle.std.specs.Prelude.{ℕ, ◌≡◌, List, [], ◌∷◌, Option, Some, None, Ok}
 use Rattle.edge_core.specs.Device.{SourceState}
-use Rattle.frame_model.specs.declared.job.Job.{Job}
-use Rattle.frame_model.specs.declared.ending.FillEnd.{FillEnd}
-use Rattle.frame_model.specs.Job.{segments}
+use Rattle.frame_grammar.specs.declared.job.Job.{Job}
+use Rattle.relay_model.specs.declared.ending.FillEnd.{FillEnd}
+use Rattle.frame_grammar.specs.Job.{segments}
 use Rattle.pipe_core.specs.declared.reply.Wake.{Wake}
 use Rattle.pipe_core.specs.History.{Call, EndWriter}
 use Rattle.pipe_core.specs.Answers.{Woke}

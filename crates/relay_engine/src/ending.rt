@@ -1,11 +1,11 @@
 //! How a relay ends.
 
 ghost use Rattle.std.specs.Prelude.{◌≡◌};
-ghost use Rattle.frame_model.specs.Ending.{outcome_of as outcome_in, status_of as status_in};
+ghost use Rattle.relay_model.specs.Ending.{outcome_of as outcome_in};
 ghost use Rattle.relay_engine.specs.Ending.{is_sink_fault, verdict_for};
 
 use crate::drain_end::DrainEnd;
-use frame_model::{FillEnd, Outcome};
+use relay_model::{FillEnd, Outcome};
 
 /// How a relay ends whose sides end so: for a failed write, else for a bad frame, else for a failed read, else for the limit,
 /// else for a rest that is no frame.
@@ -19,19 +19,5 @@ pub fn outcome_of(fill: FillEnd, drain: DrainEnd) -> Outcome
         (_, FillEnd::Long) => Outcome::TooLong,
         (DrainEnd::Rest { place }, _) => Outcome::Truncated { place },
         (DrainEnd::Clean | DrainEnd::Stopped, _) => Outcome::Clean,
-    }
-}
-
-/// The status of the program where its relay ends so.
-pub fn status_of(outcome: Outcome) -> u8
-    ensures { result ≡ status_in outcome }
-{
-    match outcome {
-        Outcome::Clean => 0,
-        Outcome::BadFrame { .. } => 2,
-        Outcome::Truncated { .. } => 3,
-        Outcome::ReadFault => 4,
-        Outcome::WriteFault => 5,
-        Outcome::TooLong => 7,
     }
 }

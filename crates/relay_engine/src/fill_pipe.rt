@@ -10,9 +10,9 @@ ghost use Rattle.relay_engine.specs.Later.{CallsLater, HearsLater};
 ghost use Rattle.relay_engine.specs.Filling.{Drafting, Drafts, RefusesRoomTo};
 
 use edge_core::Source;
-use frame_model::FillEnd;
 use pipe_core::FlushReply;
 use pipe_shared::TryFault;
+use relay_model::FillEnd;
 
 /// Why no room was granted.
 #[derive(Clone, Copy, Debug, PartialEq, Eq)]

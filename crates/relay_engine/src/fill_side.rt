@@ -7,8 +7,8 @@ ghost use Rattle.relay_engine.specs.Sides.{HasFilled};
 
 use crate::pipe_filler::{FillStep, Filler};
 use edge_core::Source;
-use frame_model::FillEnd;
 use pipe_shared::{Attempts, Pipe, WriterDone};
+use relay_model::FillEnd;
 use std::sync::Wait;
 
 /// Makes the steps of a new filler on its pipe until the last one, and tells how the taking ended and how many bytes were

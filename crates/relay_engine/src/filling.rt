@@ -6,9 +6,9 @@ ghost use Rattle.relay_engine.specs.Filling.{FillsOn, HasTaken, Settles, owes};
 
 use crate::fill_pipe::{FillPipe, NoRoom};
 use edge_core::Source;
-use frame_model::FillEnd;
 use pipe_core::FlushReply;
 use pipe_shared::TryFault;
+use relay_model::FillEnd;
 use std::marker::Model;
 
 /// What a step did that was not refused.

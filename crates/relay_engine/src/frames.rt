@@ -2,7 +2,7 @@
 
 ghost use Rattle.std.specs.Prelude.{◌≡◌, ◌+◌, ◌<◌, ◌≤◌, ◌^◌, [], true, length, max, position, slice_range, take, ◌-◌, IsNone, IfOk, IfErr, OnErr};
 ghost use Rattle.frame_model.specs.Spelling.{is_line_feed, obstacle, spelling};
-ghost use Rattle.frame_model.specs.Translation.{translation};
+ghost use Rattle.frame_grammar.specs.Job.{translation};
 ghost use Rattle.span_seq.specs.Sequence.{bytes};
 ghost use Rattle.relay_engine.specs.Frames.{Breaks, CountsWhole, Drains, Interrupts, IsFirst, StopsAt};
 ghost use Rattle.relay_engine.specs.Gathering.{Puts, PutsFront, begun};

@@ -8,7 +8,7 @@ ghost use Rattle.relay_engine.specs.Spelling.{SpellsFront};
 
 use edge_core::{Failed, Sink, write_all};
 use frame_fronts::spell_front;
-use frame_model::Job;
+use frame_grammar::Job;
 use span_seq::{Sequence, Spans};
 use std::marker::Model;
 

@@ -23,10 +23,11 @@ mod shared_reader;
 mod shared_writer;
 
 pub use drain_end::DrainEnd;
-pub use ending::{outcome_of, status_of};
+pub use ending::outcome_of;
 pub use fill_side::fill;
 pub use laws::{drained_at_first, drained_behind_others, drained_is_a_front};
 pub use lines::{Told, tell};
 pub use pipe_drainer::{DrainStep, Drainer, drain};
 pub use pipe_filler::{FillStep, Filler};
 pub use pump::{options_of, pump_local};
+pub use relay_model::{FillEnd, Outcome, Report, status_of};

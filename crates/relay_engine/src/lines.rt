@@ -6,8 +6,8 @@ ghost use Rattle.relay_engine.specs.Tell.{Writes, pieces_text, told_line};
 
 use edge_core::{Failed, Sink, write_all};
 use frame_grammar::BadKind;
-use frame_model::{Outcome, Report};
 use itoa::Buffer;
+use relay_model::{Outcome, Report};
 
 /// What is told.
 #[derive(Clone, Copy, Debug)]

@@ -3,9 +3,9 @@
 use crate::fill_pipe::{FillPipe, NoRoom};
 use crate::reading::read_into;
 use edge_core::Source;
-use frame_model::FillEnd;
 use pipe_core::{FlushReply, bytes_of_one_segment};
 use pipe_shared::{Full, LocalPipe, LocalRoomFault, TryFault, local_segments_have_a_byte};
+use relay_model::FillEnd;
 
 impl FillPipe for LocalPipe {
     type Pipe = ();

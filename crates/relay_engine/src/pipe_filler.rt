@@ -12,11 +12,11 @@ ghost use Rattle.relay_engine.specs.declared.pipe_filler.FillerEnd.TheVariants.{
 use crate::filling::{Filled, Filling};
 use core::mem::replace_with;
 use edge_core::Source;
-use frame_model::FillEnd;
 use pipe_shared::{
     Attempts, FlushFault, Full, Pipe, TryFault, WriterDone, WriterEnd, WriterRefused,
     done_writer_has_its_seat, others_are_heard_first, writer_has_its_seat,
 };
+use relay_model::FillEnd;
 use std::marker::Model;
 use std::sync::Wait;
 

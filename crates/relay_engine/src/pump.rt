@@ -1,7 +1,7 @@
 //! A relay on one thread.
 
 ghost use Rattle.std.specs.Prelude.{◌≡◌, ◌*◌, ◌^◌, ◌≤◌, ℕ, List, [], ◌∷◌, Some, None, IsNone, IfOk, OnErr};
-ghost use Rattle.frame_model.specs.Job.{IsInRange};
+ghost use Rattle.frame_grammar.specs.Job.{IsInRange};
 ghost use Rattle.frame_model.specs.Spelling.{longest_frame};
 ghost use Rattle.relay_model.specs.Run.{IsReported};
 ghost use Rattle.pipe_core.specs.History.{Call, EndWriter};
@@ -22,9 +22,9 @@ use crate::filling::{Filled, Filling};
 use crate::pipe_filler::code_of;
 use edge_core::{Sink, Source};
 use frame_grammar::{Job, segments_of};
-use frame_model::{FillEnd, Report};
 use pipe_core::never_both;
 use pipe_shared::{LocalPipe, MakeError, Options};
+use relay_model::{FillEnd, Report};
 use std::alloc::{AllocError, Global};
 
 /// Relays a source to a sink, and reports how that ended. It takes its memory before the first read, and want of it is the

@@ -4,7 +4,7 @@ ghost use Rattle.std.specs.Prelude.{◌<◌, length};
 ghost use Rattle.relay_engine.specs.Ends.{ReadsWithin};
 
 use edge_core::{Failed, Source};
-use frame_model::FillEnd;
+use relay_model::FillEnd;
 
 /// Reads once into the front of `room`, at most `left` bytes. Where none is left, one more is read, and dropped.
 pub fn read_into<S: Source>(source: &mut S, room: &mut [u8], left: u64) -> Result<usize, FillEnd>

@@ -3,12 +3,12 @@
 use crate::fill_pipe::{FillPipe, NoRoom};
 use crate::reading::read_into;
 use edge_core::Source;
-use frame_model::FillEnd;
 use pipe_core::FlushReply;
 use pipe_shared::{
     FlushFault, Full, Pipe, RoomFault, TryFault, WriterEnd, others_are_heard_first,
     segments_have_a_byte, writer_has_its_seat,
 };
+use relay_model::FillEnd;
 
 impl FillPipe for WriterEnd {
     type Pipe = Pipe;

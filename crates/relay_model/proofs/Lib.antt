@@ -1,3 +1,4 @@
 pub mod RunLemmas
 pub mod StatusLemmas
 pub mod CompleteLemmas
+pub mod AnswerLemmas

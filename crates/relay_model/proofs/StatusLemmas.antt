@@ -1,13 +1,17 @@
 -- What each status says of a run.
-use Rattle.std.proofs.Common.{◌≡◌, ◌≢◌, ◌≤◌, ℕ, Bool, true, false, List, [], ◌++◌, Some, None, refl, arith, inl, inr, ◌⊎◌}
+use Rattle.std.proofs.Common.{◌≡◌, ◌≢◌, ℕ, Bool, true, false, List, [], ◌++◌, Some, None, refl, arith, inl, inr, ◌⊎◌}
 use Rattle.std.specs.Io.KnownBytes.{Appends, Consumes, IsAtEnd}
 use Rattle.edge_core.specs.Device.{SourceState, SinkState}
-use Rattle.frame_model.specs.declared.job.Job.{Job}
-use Rattle.frame_model.specs.declared.ending.FillEnd.{FillEnd}
-use Rattle.frame_model.specs.declared.ending.FillEnd.TheVariants as taking
+use Rattle.frame_grammar.specs.declared.job.Job.{Job}
+use Rattle.relay_model.specs.declared.ending.FillEnd.{FillEnd}
+use Rattle.relay_model.specs.declared.ending.FillEnd.TheVariants as taking
+use Rattle.relay_model.specs.declared.ending.Outcome.{Outcome}
+use Rattle.relay_model.specs.declared.ending.Outcome.TheVariants.{Clean, BadFrame, Truncated, ReadFault, WriteFault, TooLong}
 use Rattle.frame_model.specs.Cut.{Verdict, Open, End, Rest, Bad}
-use Rattle.frame_model.specs.Translation.{translation}
-use Rattle.frame_model.specs.Ending.{outcome_of, status_of}
+use Rattle.frame_grammar.specs.Job.{translation}
+use Rattle.relay_model.specs.declared.status.Status.{Status}
+use Rattle.relay_model.specs.declared.status.Status.TheVariants as exit
+use Rattle.relay_model.specs.Ending.{outcome_of, status_of}
 use Rattle.frame_model.proofs.EndLemmas.{not_open}
 use Rattle.relay_model.specs.Run.{HasCause, IsRun, RelaysAll, Run, outcome, translated}
 use Rattle.relay_model.proofs.RunLemmas.{all_taken, left_of}
@@ -17,13 +21,13 @@ pub data Ends (ending : FillEnd) : Type 0 where
   AtEnd : ending ≡ taking.End → Ends ending
   Left : (code : ℕ) → ending ≡ taking.Gone code → Ends ending
 
-pub data Says (failed : Bool) (ending : FillEnd) (v : Verdict) (status : ℕ) : Type 0 where
-  WriteFailed : failed ≡ true → status ≡ 5 → Says failed ending v status
-  IsBad : failed ≡ false → status ≡ 2 → Says failed ending v status
-  ReadFailed : failed ≡ false → ending ≡ taking.Fault → status ≡ 4 → Says failed ending v status
-  IsLong : failed ≡ false → ending ≡ taking.Long → status ≡ 7 → Says failed ending v status
-  IsTruncated : failed ≡ false → Ends ending → status ≡ 3 → Says failed ending v status
-  IsWhole : failed ≡ false → Ends ending → (v ≡ End) ⊎ (v ≡ Open) → status ≡ 0 → Says failed ending v status
+pub data Says (failed : Bool) (ending : FillEnd) (v : Verdict) (status : Status) : Type 0 where
+  WriteFailed : failed ≡ true → status ≡ exit.WriteFault → Says failed ending v status
+  IsBad : failed ≡ false → status ≡ exit.BadFrame → Says failed ending v status
+  ReadFailed : failed ≡ false → ending ≡ taking.Fault → status ≡ exit.ReadFault → Says failed ending v status
+  IsLong : failed ≡ false → ending ≡ taking.Long → status ≡ exit.TooLong → Says failed ending v status
+  IsTruncated : failed ≡ false → Ends ending → status ≡ exit.Truncated → Says failed ending v status
+  IsWhole : failed ≡ false → Ends ending → (v ≡ End) ⊎ (v ≡ Open) → status ≡ exit.Clean → Says failed ending v status
 
 pub says : (failed : Bool) (ending : FillEnd) (v : Verdict) → Says failed ending v (status_of (outcome_of failed ending v))
 says true ending v = WriteFailed refl refl
@@ -50,41 +54,41 @@ Told job run = Says run.write_failed run.ending (translated job run).verdict (st
 told_of : (job : Job) (run : Run) → Told job run
 told_of job run = says run.write_failed run.ending (translated job run).verdict
 
--- the reader isn't gone with a status but 2 and 5
-read_to_end : (ending : FillEnd) (status : ℕ) → Ends ending → ((code : ℕ) → ending ≡ taking.Gone code → (status ≡ 2) ⊎ (status ≡ 5)) → (status ≡ 0) ⊎ (status ≡ 3) → ending ≡ taking.End
+-- the reader is gone only where a frame is bad or a write failed
+read_to_end : (ending : FillEnd) (status : Status) → Ends ending → ((code : ℕ) → ending ≡ taking.Gone code → (status ≡ exit.BadFrame) ⊎ (status ≡ exit.WriteFault)) → (status ≡ exit.Clean) ⊎ (status ≡ exit.Truncated) → ending ≡ taking.End
 read_to_end ending status (AtEnd e) gone which = e
 read_to_end ending status (Left code e) gone which = elim (gone code e) [
-  | inl two ↦ elim which [ inl z ↦ absurd (omega arith) | inr z ↦ absurd (omega arith) ]
-  | inr five ↦ elim which [ inl z ↦ absurd (omega arith) | inr z ↦ absurd (omega arith) ]
+  | inl two ↦ elim which [ inl z ↦ absurd cc | inr z ↦ absurd cc ]
+  | inr five ↦ elim which [ inl z ↦ absurd cc | inr z ↦ absurd cc ]
 ]
 
 -- ---- the causes
 
-at_end_of : (failed : Bool) (ending : FillEnd) (v : Verdict) (status : ℕ) → ((code : ℕ) → ending ≡ taking.Gone code → (status ≡ 2) ⊎ (status ≡ 5)) → Says failed ending v status → (status ≡ 0) ⊎ (status ≡ 3) → ending ≡ taking.End
-at_end_of failed ending v status gone (WriteFailed f s) which = elim which [ inl z ↦ absurd (omega arith) | inr z ↦ absurd (omega arith) ]
-at_end_of failed ending v status gone (IsBad f s) which = elim which [ inl z ↦ absurd (omega arith) | inr z ↦ absurd (omega arith) ]
-at_end_of failed ending v status gone (ReadFailed f e s) which = elim which [ inl z ↦ absurd (omega arith) | inr z ↦ absurd (omega arith) ]
-at_end_of failed ending v status gone (IsLong f e s) which = elim which [ inl z ↦ absurd (omega arith) | inr z ↦ absurd (omega arith) ]
+at_end_of : (failed : Bool) (ending : FillEnd) (v : Verdict) (status : Status) → ((code : ℕ) → ending ≡ taking.Gone code → (status ≡ exit.BadFrame) ⊎ (status ≡ exit.WriteFault)) → Says failed ending v status → (status ≡ exit.Clean) ⊎ (status ≡ exit.Truncated) → ending ≡ taking.End
+at_end_of failed ending v status gone (WriteFailed f s) which = elim which [ inl z ↦ absurd cc | inr z ↦ absurd cc ]
+at_end_of failed ending v status gone (IsBad f s) which = elim which [ inl z ↦ absurd cc | inr z ↦ absurd cc ]
+at_end_of failed ending v status gone (ReadFailed f e s) which = elim which [ inl z ↦ absurd cc | inr z ↦ absurd cc ]
+at_end_of failed ending v status gone (IsLong f e s) which = elim which [ inl z ↦ absurd cc | inr z ↦ absurd cc ]
 at_end_of failed ending v status gone (IsTruncated f e s) which = read_to_end ending status e gone which
 at_end_of failed ending v status gone (IsWhole f e w s) which = read_to_end ending status e gone which
 
-fault_of : (failed : Bool) (ending : FillEnd) (v : Verdict) (status : ℕ) → Says failed ending v status → status ≡ 4 → ending ≡ taking.Fault
-fault_of failed ending v status (WriteFailed f s) four = absurd (omega arith)
-fault_of failed ending v status (IsBad f s) four = absurd (omega arith)
+fault_of : (failed : Bool) (ending : FillEnd) (v : Verdict) (status : Status) → Says failed ending v status → status ≡ exit.ReadFault → ending ≡ taking.Fault
+fault_of failed ending v status (WriteFailed f s) four = absurd cc
+fault_of failed ending v status (IsBad f s) four = absurd cc
 fault_of failed ending v status (ReadFailed f e s) four = e
-fault_of failed ending v status (IsLong f e s) four = absurd (omega arith)
-fault_of failed ending v status (IsTruncated f e s) four = absurd (omega arith)
-fault_of failed ending v status (IsWhole f e w s) four = absurd (omega arith)
+fault_of failed ending v status (IsLong f e s) four = absurd cc
+fault_of failed ending v status (IsTruncated f e s) four = absurd cc
+fault_of failed ending v status (IsWhole f e w s) four = absurd cc
 
-failed_of : (failed : Bool) (ending : FillEnd) (v : Verdict) (status : ℕ) → Says failed ending v status → status ≡ 5 → failed ≡ true
+failed_of : (failed : Bool) (ending : FillEnd) (v : Verdict) (status : Status) → Says failed ending v status → status ≡ exit.WriteFault → failed ≡ true
 failed_of failed ending v status (WriteFailed f s) five = f
-failed_of failed ending v status (IsBad f s) five = absurd (omega arith)
-failed_of failed ending v status (ReadFailed f e s) five = absurd (omega arith)
-failed_of failed ending v status (IsLong f e s) five = absurd (omega arith)
-failed_of failed ending v status (IsTruncated f e s) five = absurd (omega arith)
-failed_of failed ending v status (IsWhole f e w s) five = absurd (omega arith)
+failed_of failed ending v status (IsBad f s) five = absurd cc
+failed_of failed ending v status (ReadFailed f e s) five = absurd cc
+failed_of failed ending v status (IsLong f e s) five = absurd cc
+failed_of failed ending v status (IsTruncated f e s) five = absurd cc
+failed_of failed ending v status (IsWhole f e w s) five = absurd cc
 
-shows_read_fault : (failed : Bool) (ending : FillEnd) (v : Verdict) (status : ℕ) → Says failed ending v status → (ending ≢ taking.Fault → ⊥) → (status ≡ 2) ⊎ ((status ≡ 4) ⊎ (status ≡ 5))
+shows_read_fault : (failed : Bool) (ending : FillEnd) (v : Verdict) (status : Status) → Says failed ending v status → (ending ≢ taking.Fault → ⊥) → (status ≡ exit.BadFrame) ⊎ ((status ≡ exit.ReadFault) ⊎ (status ≡ exit.WriteFault))
 shows_read_fault failed ending v status (WriteFailed f s) fault = inr (inr s)
 shows_read_fault failed ending v status (IsBad f s) fault = inl s
 shows_read_fault failed ending v status (ReadFailed f e s) fault = inr (inl s)
@@ -94,7 +98,7 @@ shows_read_fault failed ending v status (IsTruncated f (Left code e) s) fault = 
 shows_read_fault failed ending v status (IsWhole f (AtEnd e) w s) fault = absurd (fault (λ no. absurd cc))
 shows_read_fault failed ending v status (IsWhole f (Left code e) w s) fault = absurd (fault (λ no. absurd cc))
 
-shows_write_fault : (failed : Bool) (ending : FillEnd) (v : Verdict) (status : ℕ) → Says failed ending v status → (failed ≡ false → ⊥) → status ≡ 5
+shows_write_fault : (failed : Bool) (ending : FillEnd) (v : Verdict) (status : Status) → Says failed ending v status → (failed ≡ false → ⊥) → status ≡ exit.WriteFault
 shows_write_fault failed ending v status (WriteFailed f s) fault = s
 shows_write_fault failed ending v status (IsBad f s) fault = absurd (fault f)
 shows_write_fault failed ending v status (ReadFailed f e s) fault = absurd (fault f)
@@ -102,13 +106,13 @@ shows_write_fault failed ending v status (IsLong f e s) fault = absurd (fault f)
 shows_write_fault failed ending v status (IsTruncated f e s) fault = absurd (fault f)
 shows_write_fault failed ending v status (IsWhole f e w s) fault = absurd (fault f)
 
-is_few : (failed : Bool) (ending : FillEnd) (v : Verdict) (status : ℕ) → Says failed ending v status → (status ≤ 7) × (status ≢ 1) × (status ≢ 6)
-is_few failed ending v status (WriteFailed f s) = (omega arith, λ e. omega arith, λ e. omega arith)
-is_few failed ending v status (IsBad f s) = (omega arith, λ e. omega arith, λ e. omega arith)
-is_few failed ending v status (ReadFailed f e s) = (omega arith, λ e. omega arith, λ e. omega arith)
-is_few failed ending v status (IsLong f e s) = (omega arith, λ e. omega arith, λ e. omega arith)
-is_few failed ending v status (IsTruncated f e s) = (omega arith, λ e. omega arith, λ e. omega arith)
-is_few failed ending v status (IsWhole f e w s) = (omega arith, λ e. omega arith, λ e. omega arith)
+pub few : (o : Outcome) → (status_of o ≢ exit.Usage) × (status_of o ≢ exit.OutOfMemory) × (status_of o ≢ exit.DoorFault)
+few Clean = (λ e. cc, λ e. cc, λ e. cc)
+few (BadFrame place kind) = (λ e. cc, λ e. cc, λ e. cc)
+few (Truncated place) = (λ e. cc, λ e. cc, λ e. cc)
+few ReadFault = (λ e. cc, λ e. cc, λ e. cc)
+few WriteFault = (λ e. cc, λ e. cc, λ e. cc)
+few TooLong = (λ e. cc, λ e. cc, λ e. cc)
 
 pub causes : (job : Job) (run : Run) (source_before source_after : SourceState) (sink_before sink_after : SinkState) → IsRun job run source_before source_after sink_before sink_after
     → HasCause (status_of (outcome job run)) source_before source_after sink_before sink_after
@@ -120,12 +124,12 @@ causes job run source_before source_after sink_before sink_after relay =
       write_fault = λ five. relay.passed_on.fault (failed_of _ _ _ _ s five);
       source_failed = λ rose. shows_read_fault _ _ _ _ s (λ kept. omega (arith, relay.taken.unfailed kept, rose));
       sink_failed = λ rose. shows_write_fault _ _ _ _ s (λ passed. omega (arith, relay.passed_on.unfailed passed, rose));
-      few = is_few _ _ _ _ s;
+      few = few (outcome job run);
     }
 
 -- ---- status 0
 
-pub whole : (job : Job) (run : Run) (source_before source_after : SourceState) (sink_before sink_after : SinkState) → IsRun job run source_before source_after sink_before sink_after → status_of (outcome job run) ≡ 0
+pub whole : (job : Job) (run : Run) (source_before source_after : SourceState) (sink_before sink_after : SinkState) → IsRun job run source_before source_after sink_before sink_after → status_of (outcome job run) ≡ exit.Clean
     → RelaysAll job source_before source_after sink_before sink_after
 whole job run source_before source_after sink_before sink_after relay clean =
     (elim source_before.left as (λ o. source_before.left ≡ o → RelaysAll job source_before source_after sink_before sink_after) [
@@ -135,11 +139,11 @@ whole job run source_before source_after sink_before sink_after relay clean =
   where
     all_of : (input : List ℕ) → source_before.left ≡ Some input → Told job run
         → IsAtEnd source_after.left × ((translation job input true).verdict ≡ End) × Appends sink_before.written sink_after.written (translation job input true).text
-    all_of input e (WriteFailed f s) = absurd (omega (arith, s, clean))
-    all_of input e (IsBad f s) = absurd (omega (arith, s, clean))
-    all_of input e (ReadFailed f r s) = absurd (omega (arith, s, clean))
-    all_of input e (IsLong f r s) = absurd (omega (arith, s, clean))
-    all_of input e (IsTruncated f r s) = absurd (omega (arith, s, clean))
+    all_of input e (WriteFailed f s) = absurd cc
+    all_of input e (IsBad f s) = absurd cc
+    all_of input e (ReadFailed f r s) = absurd cc
+    all_of input e (IsLong f r s) = absurd cc
+    all_of input e (IsTruncated f r s) = absurd cc
     all_of input e (IsWhole f r v s) =
         let ended = read_to_end run.ending (status_of (outcome job run)) r relay.gone (inl clean) in
         let nothing_left = relay.taken.end ended in
@@ -151,6 +155,6 @@ whole job run source_before source_after sink_before sink_after relay clean =
         let verdict : ((translation job run.taken true).verdict ≡ End) ⊎ ((translation job run.taken true).verdict ≡ Open) = rw ended at v in
         let text : run.written ≡ (translation job run.taken true).text = rw ended at (relay.passed_on.whole f) in (
           nothing_left,
-          rw all (elim verdict [ inl is ↦ is | inr stays ↦ absurd (not_open job run.taken stays) ]),
+          rw all (elim verdict [ inl is ↦ is | inr stays ↦ absurd (not_open job.input job.output job.max run.taken stays) ]),
           rw (all, ← text) relay.passed_on.gained,
         )

@@ -3,8 +3,8 @@ use Rattle.std.specs.Prelude.{ℕ, ◌⊎◌, List, [], ◌∷◌, ◌++◌, cod
 use Rattle.edge_core.specs.Device.{SinkState, Takes, TakesFront}
 use Rattle.frame_model.specs.declared.framing.BadKind.{BadKind}
 use Rattle.frame_model.specs.declared.framing.BadKind.TheVariants.{TooBig, Unspellable}
-use Rattle.frame_model.specs.declared.ending.Outcome.{Outcome}
-use Rattle.frame_model.specs.declared.ending.Outcome.TheVariants.{Clean, BadFrame, Truncated, ReadFault, WriteFault, TooLong}
+use Rattle.relay_model.specs.declared.ending.Outcome.{Outcome}
+use Rattle.relay_model.specs.declared.ending.Outcome.TheVariants.{Clean, BadFrame, Truncated, ReadFault, WriteFault, TooLong}
 
 -- How a bad frame is told: its payload's length, or the index of the byte that can't be spelt.
 abbrev pub kind_text : BadKind → List ℕ

@@ -3,15 +3,17 @@ use Rattle.std.specs.Prelude.{ℕ, ◌≡◌, ◌≢◌, ◌<◌, ◌≤◌, ◌
 use Rattle.std.specs.Io.KnownBytes.{Appends, Consumes, IsAtEnd}
 use mathlib.Core.List.{IsPrefix}
 use Rattle.edge_core.specs.Device.{SourceState, SinkState, HasRisen, HasNotRisen}
-use Rattle.frame_model.specs.declared.job.Job.{Job}
-use Rattle.frame_model.specs.declared.ending.FillEnd.{FillEnd}
-use Rattle.frame_model.specs.declared.ending.FillEnd.TheVariants as taking
-use Rattle.frame_model.specs.declared.ending.Outcome.{Outcome}
-use Rattle.frame_model.specs.declared.ending.Report.{Report}
+use Rattle.frame_grammar.specs.declared.job.Job.{Job}
+use Rattle.relay_model.specs.declared.ending.FillEnd.{FillEnd}
+use Rattle.relay_model.specs.declared.ending.FillEnd.TheVariants as taking
+use Rattle.relay_model.specs.declared.ending.Outcome.{Outcome}
+use Rattle.relay_model.specs.declared.ending.Report.{Report}
 use Rattle.frame_model.specs.Cut.{End, cut}
-use Rattle.frame_model.specs.Translation.{Translation, spellable, translation}
-use Rattle.frame_model.specs.Ending.{frames_written, is_at_end, outcome_of, status_of}
-use Rattle.relay_model.specs.Lines.{line_of, IsWritten}
+use Rattle.frame_model.specs.Translation.{Translation, spellable}
+use Rattle.frame_grammar.specs.Job.{translation}
+use Rattle.relay_model.specs.declared.status.Status.{Status}
+use Rattle.relay_model.specs.declared.status.Status.TheVariants as exit
+use Rattle.relay_model.specs.Ending.{EndsEarly, frames_written, is_at_end, outcome_of}
 
 -- What was taken from the source and how that ended, what was written to the sink, and whether a write or a flush failed.
 pub record Run : Type 0 where
@@ -66,14 +68,7 @@ pub record IsPassedOn (job : Job) (run : Run) (before after : SinkState) : Type 
 pub record IsRun (job : Job) (run : Run) (source_before source_after : SourceState) (sink_before sink_after : SinkState) : Type 0 where
   pub taken : IsTaken job.limit run.taken run.ending source_before source_after
   pub passed_on : IsPassedOn job run sink_before sink_after
-  pub gone : (code : ℕ) → run.ending ≡ taking.Gone code → (status_of (outcome job run) ≡ 2) ⊎ (status_of (outcome job run) ≡ 5)
-
--- A run passed, this is its status, and its line was written to the sink for faults.
-pub record IsRelayed (job : Job) (status : ℕ) (source_before source_after : SourceState) (sink_before sink_after faults_before faults_after : SinkState) : Type 0 where
-  pub run : Run
-  pub is_run : IsRun job run source_before source_after sink_before sink_after
-  pub told : status ≡ status_of (outcome job run)
-  pub line : IsWritten (line_of (outcome job run) (length run.taken) (length run.written)) faults_before faults_after
+  pub gone : (code : ℕ) → run.ending ≡ taking.Gone code → EndsEarly (outcome job run)
 
 -- A run passed, and this is its report.
 pub record IsReported (job : Job) (report : Report) (source_before source_after : SourceState) (sink_before sink_after : SinkState) : Type 0 where
@@ -94,11 +89,11 @@ TranslatesAll job source_before source_after sink_before sink_after =
     Appends sink_before.written sink_after.written (translation job input true).text)
 
 -- Where neither device failed and all that the source held is lawful, all of it is relayed, and the status is 0.
-abbrev pub IsComplete : Job → ℕ → SourceState → SourceState → SinkState → SinkState → Type 0
+abbrev pub IsComplete : Job → Status → SourceState → SourceState → SinkState → SinkState → Type 0
 IsComplete job status source_before source_after sink_before sink_after =
     HasNotRisen source_before.faults source_after.faults → HasNotRisen sink_before.faults sink_after.faults →
     IfSome source_before.left (λ input. length input ≤ job.limit → (translation job input true).verdict ≡ End →
-    (status ≡ 0) × Appends sink_before.written sink_after.written (translation job input true).text)
+    (status ≡ exit.Clean) × Appends sink_before.written sink_after.written (translation job input true).text)
 
 -- The source has nothing left, what it held is lawful to its end, and the sink gains the translation of it.
 abbrev pub RelaysAll : Job → SourceState → SourceState → SinkState → SinkState → Type 0
@@ -106,11 +101,11 @@ RelaysAll job source_before source_after sink_before sink_after =
     IfSome source_before.left (λ input. IsAtEnd source_after.left × ((translation job input true).verdict ≡ End)
     × Appends sink_before.written sink_after.written (translation job input true).text)
 
--- Each status comes for its reason alone, and a device that failed shows in the status.
-pub record HasCause (status : ℕ) (source_before source_after : SourceState) (sink_before sink_after : SinkState) : Type 0 where
-  pub at_end : (status ≡ 0) ⊎ (status ≡ 3) → IsAtEnd source_after.left
-  pub read_fault : status ≡ 4 → HasRisen source_before.faults source_after.faults
-  pub write_fault : status ≡ 5 → HasRisen sink_before.faults sink_after.faults
-  pub source_failed : source_before.faults < source_after.faults → (status ≡ 2) ⊎ ((status ≡ 4) ⊎ (status ≡ 5))
-  pub sink_failed : sink_before.faults < sink_after.faults → status ≡ 5
-  pub few : (status ≤ 7) × (status ≢ 1) × (status ≢ 6)
+-- Each status of a run comes for its reason alone, and a device that failed shows in the status.
+pub record HasCause (status : Status) (source_before source_after : SourceState) (sink_before sink_after : SinkState) : Type 0 where
+  pub at_end : (status ≡ exit.Clean) ⊎ (status ≡ exit.Truncated) → IsAtEnd source_after.left
+  pub read_fault : status ≡ exit.ReadFault → HasRisen source_before.faults source_after.faults
+  pub write_fault : status ≡ exit.WriteFault → HasRisen sink_before.faults sink_after.faults
+  pub source_failed : source_before.faults < source_after.faults → (status ≡ exit.BadFrame) ⊎ ((status ≡ exit.ReadFault) ⊎ (status ≡ exit.WriteFault))
+  pub sink_failed : sink_before.faults < sink_after.faults → status ≡ exit.WriteFault
+  pub few : (status ≢ exit.Usage) × (status ≢ exit.OutOfMemory) × (status ≢ exit.DoorFault)

@@ -3,7 +3,7 @@
 ghost use Rattle.std.specs.Prelude.{◌≡◌, IfOk};
 ghost use Rattle.edge_core.specs.MemDoors.{IsFresh, name_of};
 
-use crate::case::{Wanted, are_unread, command_with, does, unread_devices};
+use crate::case::{Devices, Wanted, are_unread, command_with, does, fails_next, unread_devices};
 use edge_core::{MemDoors, MemSink, MemSource};
 use std::alloc::{AllocError, Global};
 use std::sync::Wait;
@@ -98,12 +98,12 @@ fn hold(sinks: &[MemSink], bytes: &[&[u8]]) -> bool {
             .all(|(sink, bytes)| sink.bytes() == *bytes)
 }
 
-/// Whether the command does what the case says, and reads nothing of its source.
-fn holds<R: Wait + Threads + Sync>(
+/// Whether the command does what the case says, and reads nothing of its source; and its devices then.
+fn run<R: Wait + Threads + Sync>(
     rt: &R,
     alloc: Global,
     case: &Batch<'_>,
-) -> Result<bool, AllocError> {
+) -> Result<(bool, Devices), AllocError> {
     let words = command_with(alloc, "batch", case.words)?;
     let mut devices = unread_devices(alloc, 64, case.fails, doors_of(alloc, case)?)?;
     let wanted = Wanted {
@@ -113,7 +113,17 @@ fn holds<R: Wait + Threads + Sync>(
     };
     let is_done = does(rt, alloc, words.as_slice(), &mut devices, &wanted);
     let is_unread = are_unread(&mut devices);
-    Ok(is_done && is_unread && hold(devices.doors.outlets(), case.outlets))
+    let has_outlets = hold(devices.doors.outlets(), case.outlets);
+    Ok((is_done && is_unread && has_outlets, devices))
+}
+
+fn holds<R: Wait + Threads + Sync>(
+    rt: &R,
+    alloc: Global,
+    case: &Batch<'_>,
+) -> Result<bool, AllocError> {
+    let (holds, _devices) = run(rt, alloc, case)?;
+    Ok(holds)
 }
 
 #[test]
@@ -190,6 +200,11 @@ fn an_opening_that_fails_ends_the_command(rt: HostRuntime) -> Result<(), Fail> {
             words: &["2", "len4", "line", "seg=64", "a", "c"],
             ..refused(&[], &[b""], b"door fault at word 6\n")
         },
+        // Behind the first name, words that begin as keys are names.
+        Batch {
+            words: &["2", "line", "len4", "max=9", "a", "max=9"],
+            ..refused(&[], &[b""], b"door fault at word 6\n")
+        },
     ];
     for case in &cases {
         assert!(rt; holds(&rt, alloc, case)?);
@@ -222,6 +237,31 @@ fn a_fault_of_the_sink_comes_before_those_of_names(rt: HostRuntime) -> Result<()
     ];
     for case in &cases {
         assert!(rt; holds(&rt, alloc, case)?);
+    }
+    Ok(())
+}
+
+// Neither a failed write of the lines nor a refused opening is followed by a flush: the call that fails next is the first that
+// the command didn't make.
+#[test]
+fn the_sink_is_called_no_more_behind_a_fault(rt: HostRuntime) -> Result<(), Fail> {
+    let alloc = rt.alloc();
+    let cases = [
+        Batch {
+            fails: &[1, 2],
+            output: b"",
+            status: 5,
+            line: b"write fault after 0\n",
+            ..USUAL
+        },
+        Batch {
+            fails: &[1],
+            ..refused(&[1], &[], b"door fault at word 4\n")
+        },
+    ];
+    for case in &cases {
+        let (holds, mut devices) = run(&rt, alloc, case)?;
+        assert!(rt; holds && fails_next(&mut devices));
     }
     Ok(())
 }

@@ -1,7 +1,7 @@
-//! A case of a command that relays, between devices in memory.
+//! A case of a command, and what comes out of it.
 
-use edge_core::{MemDoors, MemSink, MemSource, Source};
-use relay_top::relay_main;
+use edge_core::{Doors, MemDoors, MemSink, MemSource, Sink, Source};
+use relay_top::{is_local, relay_local, relay_main};
 use std::alloc::{AllocError, Global};
 use std::sync::Wait;
 use std::thread::Threads;
@@ -134,7 +134,7 @@ pub fn are_unread(devices: &mut Devices) -> bool {
     gives(&mut devices.source, UNREAD.len())
 }
 
-/// The status of a command, if there are few enough words. Only here does the check meet the long contract of `relay_main`.
+/// The exit status of a command, if there are few enough words. Only here does the check meet the long contract of `relay_main`.
 fn run<R: Wait + Threads + Sync>(
     rt: &R,
     alloc: Global,
@@ -144,7 +144,7 @@ fn run<R: Wait + Threads + Sync>(
     if words.len() >= 1 << 32 {
         return None;
     }
-    Some(relay_main(
+    let status = relay_main(
         rt,
         alloc,
         words,
@@ -152,7 +152,30 @@ fn run<R: Wait + Threads + Sync>(
         &mut devices.sink,
         &mut devices.faults,
         &mut devices.doors,
-    ))
+    );
+    Some(status.number())
+}
+
+/// The same by the call for commands on one thread, if the words ask for no more.
+fn run_alone(alloc: Global, words: &[String], devices: &mut Devices) -> Option<u8> {
+    if !is_local(words) {
+        return None;
+    }
+    let status = relay_local(
+        alloc,
+        words,
+        &mut devices.source,
+        &mut devices.sink,
+        &mut devices.faults,
+    );
+    Some(status.number())
+}
+
+/// Whether a command that ended so did what was wanted.
+fn has_come(status: Option<u8>, devices: &Devices, wanted: &Wanted<'_>) -> bool {
+    status == Some(wanted.status)
+        && devices.sink.bytes() == wanted.output
+        && devices.faults.bytes() == wanted.line
 }
 
 /// Whether this comes out of a command.
@@ -164,9 +187,23 @@ pub fn does<R: Wait + Threads + Sync>(
     wanted: &Wanted<'_>,
 ) -> bool {
     let status = run(rt, alloc, words, devices);
-    status == Some(wanted.status)
-        && devices.sink.bytes() == wanted.output
-        && devices.faults.bytes() == wanted.line
+    has_come(status, devices, wanted)
+}
+
+/// Whether this comes out of a command by the call for commands on one thread.
+pub fn does_alone(
+    alloc: Global,
+    words: &[String],
+    devices: &mut Devices,
+    wanted: &Wanted<'_>,
+) -> bool {
+    let status = run_alone(alloc, words, devices);
+    has_come(status, devices, wanted)
+}
+
+/// Whether the next call of the sink fails. Which one that is tells how many were made.
+pub fn fails_next(devices: &mut Devices) -> bool {
+    devices.sink.flush().is_err()
 }
 
 /// Whether a read of this source gives so many bytes.
@@ -197,4 +234,37 @@ pub fn holds<R: Wait + Threads + Sync>(
     let mut devices = devices_of(alloc, case)?;
     let is_done = does(rt, alloc, words.as_slice(), &mut devices, &case.wanted);
     Ok(is_done && left.is_none_or(|count| gives(&mut devices.source, count)))
+}
+
+/// Whether `copy`, by the call for commands on one thread, does what the case says.
+pub fn holds_alone(alloc: Global, case: &Case<'_>) -> Result<bool, AllocError> {
+    let words = command_with(alloc, "copy", case.words)?;
+    let mut devices = devices_of(alloc, case)?;
+    Ok(does_alone(alloc, words.as_slice(), &mut devices, &case.wanted))
+}
+
+/// Whether a command ends well and tells nothing of faults.
+pub fn succeeds<R: Wait + Threads + Sync, S: Source + Send, K: Sink + Send, D: Doors>(
+    rt: &R,
+    alloc: Global,
+    words: &[&str],
+    source: &mut S,
+    sink: &mut K,
+    doors: &mut D,
+) -> Result<bool, AllocError> {
+    let words = strings(alloc, words)?;
+    let mut faults = MemSink::make(alloc, 64, Vec::new(alloc), Vec::new(alloc))?;
+    if words.len() >= 1 << 32 {
+        return Ok(false);
+    }
+    let status = relay_main(
+        rt,
+        alloc,
+        words.as_slice(),
+        source,
+        sink,
+        &mut faults,
+        doors,
+    );
+    Ok(status.is_clean() && faults.bytes().is_empty())
 }

@@ -8,6 +8,10 @@ mod case;
 #[cfg(test)]
 mod drills;
 #[cfg(test)]
+mod held;
+#[cfg(test)]
 mod real_doors;
 #[cfg(test)]
 mod relays;
+#[cfg(test)]
+mod threads;

@@ -1,42 +1,12 @@
 //! Commands between files and between connections, opened by doors over the system's.
 
-use crate::case::strings;
-use edge_core::{Doors, MemSink, NoDoors, Sink, Source, WholeSource};
-use relay_top::relay_main;
+use crate::case::succeeds;
+use edge_core::{Doors, MemSink, NoDoors, WholeSource};
 use socket_edge::RealDoors;
-use std::alloc::{AllocError, Global};
 use std::io::{Read, Write};
 use std::net::{Shutdown, TcpListener, TcpStream};
-use std::sync::Wait;
 use std::test::Fail;
-use std::thread::Threads;
 use std::{env, fs, io, process};
-
-/// Whether a command ends well and tells nothing of faults.
-fn succeeds<R: Wait + Threads + Sync, S: Source + Send, K: Sink + Send, D: Doors>(
-    rt: &R,
-    alloc: Global,
-    words: &[&str],
-    source: &mut S,
-    sink: &mut K,
-    doors: &mut D,
-) -> Result<bool, AllocError> {
-    let words = strings(alloc, words)?;
-    let mut faults = MemSink::make(alloc, 64, Vec::new(alloc), Vec::new(alloc))?;
-    if words.len() >= 1 << 32 {
-        return Ok(false);
-    }
-    let status = relay_main(
-        rt,
-        alloc,
-        words.as_slice(),
-        source,
-        sink,
-        &mut faults,
-        doors,
-    );
-    Ok(status == 0 && faults.bytes().is_empty())
-}
 
 /// An address of this machine at which nobody listens.
 fn free_address(rt: &HostRuntime) -> io::Result<String> {

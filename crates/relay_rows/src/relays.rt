@@ -1,7 +1,8 @@
 //! `copy` and `pump`, between devices in memory. What they answer is the same.
 
 use crate::case::{
-    Case, Wanted, are_unread, does, holds, no_names, plain, strings, unread_devices,
+    Case, Wanted, are_unread, does, does_alone, holds, holds_alone, no_names, plain, strings,
+    unread_devices,
 };
 use relay_top::is_local;
 use std::alloc::{AllocError, Global};
@@ -13,14 +14,17 @@ const LEN4_LINE: &[&str] = &["len4", "line"];
 
 const TWO_FRAMES: &[u8] = &[0, 0, 0, 2, b'h', b'i', 0, 0, 0, 1, b'a'];
 
-/// Whether `copy` and `pump` do what the cases say.
+/// Whether `copy`, by both calls, and `pump` do what the cases say.
 fn hold<R: Wait + Threads + Sync>(
     rt: &R,
     alloc: Global,
     cases: &[Case<'_>],
 ) -> Result<bool, AllocError> {
     for case in cases {
-        if !holds(rt, alloc, "copy", case, None)? || !holds(rt, alloc, "pump", case, None)? {
+        if !holds(rt, alloc, "copy", case, None)?
+            || !holds_alone(alloc, case)?
+            || !holds(rt, alloc, "pump", case, None)?
+        {
             return Ok(false);
         }
     }
@@ -50,6 +54,38 @@ fn frames_come_out_in_the_other_framing(rt: HostRuntime) -> Result<(), Fail> {
             &["line", "len2"],
             b"a\r\nb",
             &[0, 2, b'a', b'\r', 0, 1, b'b'],
+            0,
+            b"",
+        ),
+    ];
+    assert!(rt; hold(&rt, alloc, &cases)?);
+    Ok(())
+}
+
+#[test]
+fn keys_are_taken_in_any_order(rt: HostRuntime) -> Result<(), Fail> {
+    let alloc = rt.alloc();
+    let empty_frame: &[u8] = &[0; 4];
+    let cases = [
+        plain(
+            &["line", "len4", "seg=64", "max=0"],
+            b"\n",
+            empty_frame,
+            0,
+            b"",
+        ),
+        plain(
+            &["line", "len4", "seg=64", "max=0"],
+            b"a\n",
+            b"",
+            2,
+            b"bad frame at 0: length 1\n",
+        ),
+        plain(&["line", "len4", "pause=100"], b"\n", empty_frame, 0, b""),
+        plain(
+            &["line", "len4", "pause=0", "resume=70000"],
+            b"\n",
+            empty_frame,
             0,
             b"",
         ),
@@ -247,7 +283,7 @@ fn the_greatest_payloads_pass(rt: HostRuntime) -> Result<(), Fail> {
     Ok(())
 }
 
-/// Whether words that are no command are told by this line, and nothing is read or written.
+/// Whether words that are no command are told by this line, and nothing is read or written, by each call that takes them.
 fn told<R: Wait + Threads + Sync>(
     rt: &R,
     alloc: Global,
@@ -261,14 +297,21 @@ fn told<R: Wait + Threads + Sync>(
         status: 1,
         line,
     };
-    let is_told = does(rt, alloc, words.as_slice(), &mut devices, &wanted);
-    Ok(is_told && are_unread(&mut devices))
+    let is_told = does(rt, alloc, words.as_slice(), &mut devices, &wanted)
+        && are_unread(&mut devices);
+    if !is_local(words.as_slice()) {
+        return Ok(is_told);
+    }
+    let mut devices = unread_devices(alloc, 64, &[], no_names(alloc)?)?;
+    let is_told_alone = does_alone(alloc, words.as_slice(), &mut devices, &wanted)
+        && are_unread(&mut devices);
+    Ok(is_told && is_told_alone)
 }
 
 #[test]
 fn other_words_are_told(rt: HostRuntime) -> Result<(), Fail> {
     let alloc = rt.alloc();
-    let cases: [(&[&str], &[u8]); 19] = [
+    let cases: [(&[&str], &[u8]); 24] = [
         (&[], b"usage: word 0\n"),
         (&["copy"], b"usage: word 1\n"),
         (&["copy", "len4"], b"usage: word 2\n"),
@@ -282,6 +325,14 @@ fn other_words_are_told(rt: HostRuntime) -> Result<(), Fail> {
             &["copy", "line", "len4", "max=1", "max=1"],
             b"usage: word 4\n",
         ),
+        (
+            &["copy", "line", "len4", "resume=70000"],
+            b"usage: word 3\n",
+        ),
+        (&["copy", "line", "len4", "seg=63"], b"usage: word 3\n"),
+        (&["copy", "line", "len4", "x"], b"usage: word 3\n"),
+        (&["Copy", "line", "len4"], b"usage: word 0\n"),
+        (&["batch", "0", "line", "len4", "a"], b"usage: word 1\n"),
         (&["pump"], b"usage: word 1\n"),
         (&["pump", "len4", "foo"], b"usage: word 2\n"),
         (

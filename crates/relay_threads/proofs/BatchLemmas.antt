@@ -3,8 +3,8 @@ use Rattle.std.proofs.Common.{◌≡◌, ◌<◌, ℕ, suc, List, [], ◌∷◌,
 use Rattle.std.proofs.Math.Seq.{take-append_seam}
 use Rattle.std.specs.List.{AllZip}
 use Rattle.edge_core.specs.Device.{SourceState, SinkState}
-use Rattle.frame_model.specs.declared.job.Job.{Job}
-use Rattle.relay_threads.specs.Batch.{Finishes}
+use Rattle.frame_grammar.specs.declared.job.Job.{Job}
+use Rattle.relay_model.specs.Answers.{Finishes}
 use Rattle.relay_threads.specs.declared.batching.Task.{Task}
 use Rattle.relay_threads.specs.declared.batching.Finished.{Finished}
 

@@ -1,10 +1,10 @@
 -- What a relay on two threads has done, once both its sides have ended.
 use Rattle.std.specs.Prelude.{◌≡◌, [], None}
 use Rattle.edge_core.specs.Device.{SourceState, SinkState}
-use Rattle.frame_model.specs.declared.job.Job.{Job}
-use Rattle.frame_model.specs.declared.ending.FillEnd.{FillEnd}
-use Rattle.frame_model.specs.declared.ending.Report.{Report}
-use Rattle.frame_model.specs.Ending.{outcome_of}
+use Rattle.frame_grammar.specs.declared.job.Job.{Job}
+use Rattle.relay_model.specs.declared.ending.FillEnd.{FillEnd}
+use Rattle.relay_model.specs.declared.ending.Report.{Report}
+use Rattle.relay_model.specs.Ending.{outcome_of}
 use Rattle.turn_cell.specs.Seat.{CellState, new_seat}
 use Rattle.pipe_shared.specs.Name.{Name}
 use Rattle.pipe_shared.specs.Turns.{Seat}

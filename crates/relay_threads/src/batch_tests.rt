@@ -1,13 +1,12 @@
 //! Known runs of batches.
 
 ghost use Rattle.std.specs.Prelude.{◌≡◌};
-ghost use Rattle.frame_model.specs.Job.{IsInRange};
+ghost use Rattle.frame_grammar.specs.Job.{IsInRange};
 
-use crate::held::{Begun, HeldSink, HeldSource};
 use crate::{Finished, Task, batch};
 use edge_core::{MemSink, MemSource};
 use frame_grammar::{Framing, Job};
-use frame_model::{Outcome, Report};
+use relay_model::{Outcome, Report};
 use std::alloc::{AllocError, Global};
 use std::process::Abort;
 use std::test::Fail;
@@ -128,31 +127,5 @@ fn a_device_that_fails_shows_in_its_own_report_alone(rt: HostRuntime) -> Result<
     expect(&rt, &finished[1], Outcome::Clean, 1, 5, b"b\n");
     expect(&rt, &finished[2], Outcome::WriteFault, 0, 5, b"");
     expect(&rt, &finished[3], Outcome::Clean, 1, 5, b"d\n");
-    Ok(())
-}
-
-/// The first task's second read and the second task's first write wait for each other.
-#[test]
-fn two_workers_go_on_beside_each_other(rt: HostRuntime) -> Result<(), Fail> {
-    let alloc = rt.alloc();
-    let (held, free) = (Begun::new(), Begun::both());
-    let mut tasks = Vec::new(alloc);
-    tasks.push(Task {
-        inlet: HeldSource::new(b"a\n".to_vec(alloc)?, &held),
-        outlet: HeldSink::new(Vec::new(alloc), &free),
-    })?;
-    tasks.push(Task {
-        inlet: HeldSource::new(b"b\n".to_vec(alloc)?, &free),
-        outlet: HeldSink::new(Vec::new(alloc), &held),
-    })?;
-    let finished = batch(&rt, alloc, tasks, 2, &job(Framing::Line, Framing::Line))?;
-    assert_eq!(rt; finished.len(), 2);
-    for (done, text) in finished.iter().zip([b"a\n", b"b\n"]) {
-        assert_eq!(rt;
-            done.report.ok().map(|report| report.outcome),
-            Some(Outcome::Clean)
-        );
-        assert_eq!(rt; done.outlet.bytes(), text.as_slice());
-    }
     Ok(())
 }

@@ -3,13 +3,13 @@
 ghost use Rattle.std.specs.Prelude.{◌≡◌, ◌<◌, ◌≤◌, IfOk};
 ghost use Rattle.std.specs.List.{AllZip};
 ghost use Rattle.edge_core.specs.Device.{SourceState, SinkState};
-ghost use Rattle.frame_model.specs.Job.{IsInRange};
-ghost use Rattle.relay_threads.specs.Batch.{Finishes};
+ghost use Rattle.frame_grammar.specs.Job.{IsInRange};
+ghost use Rattle.relay_model.specs.Answers.{Finishes};
 
 use edge_core::{Sink, Source};
 use frame_grammar::Job;
-use frame_model::Report;
 use relay_engine::pump_local;
+use relay_model::Answer;
 use std::alloc::{AllocError, Global};
 use std::thread::{Threads, for_each_mut};
 
@@ -25,7 +25,7 @@ pub struct Task<I, O> {
 pub struct Finished<I, O> {
     pub inlet: I,
     pub outlet: O,
-    pub report: Result<Report, AllocError>,
+    pub report: Answer,
 }
 
 /// Relays each task's inlet to its outlet, by at most as many threads as there are workers (1 to 16), and hands the devices

@@ -2,8 +2,8 @@
 
 ghost use Rattle.std.specs.Prelude.{◌^◌, ◌≤◌};
 ghost use Rattle.edge_core.specs.Device.{SourceState, SinkState};
-ghost use Rattle.frame_model.specs.declared.job.Job.{Job as JobState};
-ghost use Rattle.frame_model.specs.declared.ending.Report.{Report};
+ghost use Rattle.frame_grammar.specs.declared.job.Job.{Job as JobState};
+ghost use Rattle.relay_model.specs.declared.ending.Report.{Report};
 ghost use Rattle.relay_model.specs.Run.{IsReported};
 ghost use Rattle.pipe_shared.specs.declared.pipe.Closed.{Closed};
 ghost use Rattle.pipe_shared.specs.Turns.{Seat};

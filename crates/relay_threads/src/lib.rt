@@ -5,8 +5,6 @@
 #[cfg(test)]
 mod batch_tests;
 mod batching;
-#[cfg(test)]
-mod held;
 mod laws;
 mod pumping;
 #[cfg(test)]

@@ -2,7 +2,7 @@
 
 ghost use Rattle.std.specs.Prelude.{◌≡◌, ◌*◌, ◌^◌, ◌≤◌, None, Some, IfOk, OnErr};
 ghost use Rattle.turn_cell.specs.Seat.{IsIdle, IsOf, new_seat};
-ghost use Rattle.frame_model.specs.Job.{IsInRange};
+ghost use Rattle.frame_grammar.specs.Job.{IsInRange};
 ghost use Rattle.pipe_shared.specs.declared.pipe.Closed.{Closed};
 ghost use Rattle.pipe_shared.specs.Made.{ClosesPipe};
 ghost use Rattle.pipe_shared.specs.Options.{first_bad};
@@ -12,9 +12,9 @@ ghost use Rattle.relay_threads.specs.Pumped.{HasPumped, new_reader, new_writer};
 
 use edge_core::{Sink, Source};
 use frame_grammar::Job;
-use frame_model::{FillEnd, Report};
 use pipe_shared::{Canceller, Made, MakeError, Pipe, ReaderDone, ReaderEnd, WriterDone, WriterEnd};
 use relay_engine::{DrainEnd, Drainer, Filler, drain, fill, options_of, outcome_of};
+use relay_model::{FillEnd, Report};
 use std::alloc::{AllocError, Global};
 use std::sync::Wait;
 use std::thread::{Threads, join_mut};

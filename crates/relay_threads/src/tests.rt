@@ -1,14 +1,13 @@
 //! Known runs of a relay on two threads.
 
 ghost use Rattle.std.specs.Prelude.{IfOk};
-ghost use Rattle.frame_model.specs.Job.{IsInRange};
+ghost use Rattle.frame_grammar.specs.Job.{IsInRange};
 ghost use Rattle.relay_model.specs.Run.{IsReported};
 
-use crate::held::{Begun, HeldSink, HeldSource};
 use crate::{pump, settle, settled_pump_is_reported};
 use edge_core::{MemSink, MemSource, Sink, Source};
 use frame_grammar::{Framing, Job};
-use frame_model::{Outcome, Report};
+use relay_model::{Outcome, Report};
 use std::alloc::{AllocError, Global};
 use std::sync::Wait;
 use std::test::Fail;
@@ -68,18 +67,5 @@ fn frames_become_lines_and_lines_become_frames(rt: HostRuntime) -> Result<(), Fa
         );
         assert_eq!(rt; sink.bytes(), text);
     }
-    Ok(())
-}
-
-#[test]
-fn both_sides_run_beside_each_other(rt: HostRuntime) -> Result<(), Fail> {
-    let alloc = rt.alloc();
-    let begun = Begun::new();
-    let mut source = HeldSource::new(b"hi\n".to_vec(alloc)?, &begun);
-    let mut sink = HeldSink::new(Vec::new(alloc), &begun);
-    let job = job(Framing::Line, Framing::Line);
-    let report = relay(&rt, alloc, &mut source, &mut sink, &job)?;
-    assert_eq!(rt; report.outcome, Outcome::Clean);
-    assert_eq!(rt; sink.bytes(), b"hi\n".as_slice());
     Ok(())
 }

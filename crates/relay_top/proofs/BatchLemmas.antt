@@ -2,28 +2,32 @@
 use Rattle.std.proofs.Common.{◌≡◌, ◌+◌, ℕ, List, [], ◌∷◌, ◌++◌, length, Option, None, refl, sym, ap, ◌∙◌, subst, arith, suc}
 use Rattle.std.specs.Prelude.{map, option_map}
 use Rattle.std.specs.List.{AllZip, flat_map}
-use Rattle.edge_core.specs.Device.{SinkState}
+use Rattle.edge_core.specs.Device.{SinkState, SourceState}
 use Rattle.edge_core.specs.Doors.{CountsFaults, Device, DoorsState, Told}
 use Rattle.edge_core.specs.declared.doors.DoorError.{DoorError}
 use Rattle.edge_core.specs.declared.doors.DoorError.TheVariants.{Failed, OutOfMemory}
-use Rattle.frame_model.specs.declared.job.Job.{Job}
+use Rattle.frame_grammar.specs.declared.job.Job.{Job}
+use Rattle.relay_model.specs.declared.status.Status.{Status}
+use Rattle.relay_model.specs.declared.status.Status.TheVariants as exit
+use Rattle.relay_model.specs.Answers.{Answer, Finishes, Relayed, Sums, answers, returned}
+use Rattle.relay_model.specs.Devices.{Devices, HasComeBack, both, faults_among, with_all, with_out}
 use Rattle.relay_model.specs.Lines.{IsWritten, door_line, memory_line}
-use Rattle.relay_threads.specs.Batch.{Finishes}
-use Rattle.relay_top.specs.Batch.{Answer, AreFresh, Batches, Devices, HasNoMemory, HasRelayed, IsRefused, IsRelayedAlone, Relayed, Sums, answers, both, faults_among, returned, with_all}
-use Rattle.relay_top.specs.Opening.{HasComeBack, OpensNotAll, TellsRefusal, with_out}
+use Rattle.relay_model.specs.World.{world}
+use Rattle.relay_top.specs.Batch.{AreFreshOf, Batches, HasNoMemory, HasRelayed, IsRefused, IsRelayedOf}
+use Rattle.relay_top.specs.Opening.{OpensNotAll, TellsRefusal}
 use Rattle.relay_top.proofs.OpeningLemmas.{doors_are, nothing_back}
 
 -- ---- all were relayed
 
 pub record AreRelayed {F : Type 0} (told : Option Told) (job : Job) (ended : F → Devices) (answer : F → Answer) (names : List (List ℕ)) (finished : List F) : Type 0 where
   pub relayed : List Relayed
-  pub each : AllZip (IsRelayedAlone told job) names relayed
+  pub each : AllZip (IsRelayedOf told job) names relayed
   pub answers : answers relayed ≡ map answer finished
   pub back : returned relayed ≡ flat_map both (map ended finished)
   pub same : length finished ≡ length names
 
 pub relayed_from : {T F : Type 0} (told : Option Told) (job : Job) (opened : T → Devices) (ended : F → Devices) (answer : F → Answer) (names : List (List ℕ)) (tasks : List T) (finished : List F)
-    → AllZip (λ name task. AreFresh told name (opened task)) names tasks
+    → AllZip (λ name task. AreFreshOf told name (opened task)) names tasks
     → AllZip (λ task done. Finishes job (answer done) (opened task).inlet (ended done).inlet (opened task).outlet (ended done).outlet) tasks finished
     → AreRelayed told job ended answer names finished
 relayed_from told job opened ended answer [] [] [] fresh finishes = record { relayed = []; each = tt; answers = refl; back = refl; same = refl }
@@ -41,10 +45,10 @@ relayed_from told job opened ended answer (name ∷ names) (task ∷ tasks) (don
       same = ap (λ n. suc n) rest.same;
     }
 
-pub relayed_all : {F : Type 0} (names : List (List ℕ)) (first : ℕ) (job : Job) (status : ℕ) (ended : F → Devices) (answer : F → Answer) (finished : List F) (before between after : DoorsState) (kb ka fb fa : SinkState)
+pub relayed_all : {F : Type 0} (names : List (List ℕ)) (first : ℕ) (job : Job) (status : Status) (source : SourceState) (ended : F → Devices) (answer : F → Answer) (finished : List F) (before between after : DoorsState) (kb ka fb fa : SinkState)
     → AreRelayed before.told job ended answer names finished → between ≡ with_out (length names) before → HasComeBack (map ended finished) between after → length (map ended finished) ≡ length finished
-    → Sums names (map answer finished) status kb ka fb fa → Batches names first job status before after kb ka fb fa
-relayed_all names first job status ended answer finished before between after kb ka fb fa are opened back size sums =
+    → Sums names (map answer finished) status kb ka fb fa → Batches names first job status (world source before kb fb) (world source after ka fa)
+relayed_all names first job status source ended answer finished before between after kb ka fb fa are opened back size sums =
     HasRelayed are.relayed are.each
     (record {
       counted = subst (λ (xs : List Device). CountsFaults before.faults (faults_among xs) after.faults) (sym are.back) (subst (λ n. CountsFaults n (faults_among (flat_map both (map ended finished))) after.faults) (ap (λ d. d.faults) opened) back.counted);
@@ -56,19 +60,22 @@ relayed_all names first job status ended answer finished before between after kb
           (let b = ap (λ d. d.outlets_out) back.returned in let o = ap (λ d. d.outlets_out) opened in omega (arith, b, o, size, are.same))
           (ap (λ d. d.told) back.returned ∙ ap (λ d. option_map (with_all (flat_map both (map ended finished))) d.told) opened ∙ ap (λ (xs : List Device). option_map (with_all xs) before.told) (sym are.back));
     })
+    refl
     (subst (λ (xs : List Answer). Sums names xs status kb ka fb fa) (sym are.answers) sums)
 
 -- ---- not all were
 
-pub refused_all : (names : List (List ℕ)) (first count : ℕ) (job : Job) (status : ℕ) (error : DoorError) (before after : DoorsState) (kb ka fb fa : SinkState)
-    → OpensNotAll names error count before after → TellsRefusal error (first + count) status fb fa → ka ≡ kb → Batches names first job status before after kb ka fb fa
-refused_all names first count job status Failed before after kb ka fb fa refuses tells same =
-    IsRefused refuses.opened refuses.alone refuses.unused refuses.some refuses.fails.0 refuses.fails.1 tells.0 same (subst (λ n. IsWritten (door_line (first + n)) fb fa) refuses.behind tells.1)
-refused_all names first count job status OutOfMemory before after kb ka fb fa refuses tells same =
-    HasNoMemory refuses.opened refuses.alone refuses.unused refuses.fails tells.0 same tells.1
+pub refused_all : (names : List (List ℕ)) (first count : ℕ) (job : Job) (status : Status) (source : SourceState) (error : DoorError) (before after : DoorsState) (kb ka fb fa : SinkState)
+    → OpensNotAll names error count before after → TellsRefusal error (first + count) status fb fa → ka ≡ kb → Batches names first job status (world source before kb fb) (world source after ka fa)
+refused_all names first count job status source Failed before after kb ka fb fa refuses tells same =
+    IsRefused refuses.opened refuses.alone refuses.unused refuses.some refuses.fails.0 refuses.fails.1 tells.0
+    (record { source = refl; sink = same; told = subst (λ n. IsWritten (door_line (first + n)) fb fa) refuses.behind tells.1 })
+refused_all names first count job status source OutOfMemory before after kb ka fb fa refuses tells same =
+    HasNoMemory refuses.opened refuses.alone refuses.unused refuses.fails tells.0 (record { source = refl; sink = same; told = tells.1 })
 
 -- before any was opened
-pub no_room : (names : List (List ℕ)) (first : ℕ) (job : Job) (status : ℕ) (before after : DoorsState) (kb ka fb fa : SinkState) → after ≡ before → status ≡ 6 → ka ≡ kb → IsWritten memory_line fb fa → Batches names first job status before after kb ka fb fa
-no_room names first job status before after kb ka fb fa doors is same line =
+pub no_room : (names : List (List ℕ)) (first : ℕ) (job : Job) (status : Status) (source : SourceState) (before after : DoorsState) (kb ka fb fa : SinkState) → after ≡ before → status ≡ exit.OutOfMemory → ka ≡ kb → IsWritten memory_line fb fa
+    → Batches names first job status (world source before kb fb) (world source after ka fa)
+no_room names first job status source before after kb ka fb fa doors memory same line =
     HasNoMemory [] None (record { done = []; rest = names; parts = refl; fresh = tt; next = tt })
-    (doors ∙ ap (λ (t : Option Told). record before { told = t }) (sym (nothing_back before.told))) is same line
+    (doors ∙ ap (λ (t : Option Told). record before { told = t }) (sym (nothing_back before.told))) memory (record { source = refl; sink = same; told = line })

@@ -1,26 +1,31 @@
 -- How a relay of a generated input into memory ends.
-use Rattle.std.proofs.Common.{◌≡◌, ◌≢◌, ◌<◌, ◌≤◌, ◌+◌, ◌*◌, ◌^◌, ℕ, Bool, true, false, List, [], ◌++◌, length, Some, Result, Ok, Err, refl, sym, ap, ◌∙◌, subst, arith, inl, inr, ◌⊎◌}
+use Rattle.std.proofs.Common.{◌≡◌, ◌≢◌, ◌<◌, ◌≤◌, ◌+◌, ◌*◌, ◌^◌, ℕ, Bool, true, false, List, [], ◌++◌, length, Some, Result, Ok, Err, refl, sym, ap, ◌∙◌, subst, arith, inl, inr}
 use Rattle.std.specs.Prelude.{IfOk}
 use Rattle.std.specs.Io.KnownBytes.{Consumes}
 use Rattle.std.proofs.lemmas.List.{append-nil, length-append}
+use Rattle.edge_core.specs.Doors.{DoorsState}
 use Rattle.edge_core.specs.Device.{HasRisen, SinkState, SourceState, Takes, TakesFront}
 use Rattle.frame_model.specs.declared.framing.BadKind.{BadKind}
 use Rattle.frame_model.specs.declared.framing.Framing.{Framing}
-use Rattle.frame_model.specs.declared.job.Job.{Job}
-use Rattle.frame_model.specs.declared.ending.FillEnd.{FillEnd}
-use Rattle.frame_model.specs.declared.ending.FillEnd.TheVariants as taking
-use Rattle.frame_model.specs.declared.ending.Outcome.{Outcome}
-use Rattle.frame_model.specs.declared.ending.Outcome.TheVariants.{Clean, BadFrame, WriteFault}
-use Rattle.frame_model.specs.declared.ending.Report.{Report}
+use Rattle.frame_grammar.specs.declared.job.Job.{Job}
+use Rattle.relay_model.specs.declared.ending.FillEnd.{FillEnd}
+use Rattle.relay_model.specs.declared.ending.FillEnd.TheVariants as taking
+use Rattle.relay_model.specs.declared.ending.Outcome.{Outcome}
+use Rattle.relay_model.specs.declared.ending.Outcome.TheVariants.{Clean, BadFrame, WriteFault}
+use Rattle.relay_model.specs.declared.ending.Report.{Report}
 use Rattle.frame_model.specs.Cut.{Bad, End, Open, Rest, Verdict}
-use Rattle.frame_model.specs.Ending.{is_at_end, outcome_of, status_of}
+use Rattle.relay_model.specs.declared.status.Status.{Status}
+use Rattle.relay_model.specs.declared.status.Status.TheVariants as exit
+use Rattle.relay_model.specs.Ending.{EndsEarly, is_at_end, outcome_of}
 use Rattle.frame_model.specs.Spelling.{text}
-use Rattle.frame_model.specs.Translation.{translation}
+use Rattle.frame_model.specs.Translation.{translation_between}
+use Rattle.frame_grammar.specs.Job.{translation}
 use Rattle.gen_core.specs.Generator.{input, payloads}
 use Rattle.relay_model.specs.Run.{IsDropped, IsReported, outcome, translated}
 use Rattle.relay_model.proofs.RunLemmas.{BadStays, all_taken, bad_where_gone, left_of, not_risen}
-use Rattle.relay_top.specs.Drill.{Drills, EndsAs, HasDrillCause, HasGained, IsBad, IsBrokenOff, IsSummed, OutOfMemory, SumsUp, drilled, summary, summary_line}
+use Rattle.relay_top.specs.Drill.{Drills, EndsAs, HasDrillCause, HasGained, HasNoMemory, IsBad, IsBrokenOff, IsSummed, IsSummedUp, SumsUp, drilled, summary, summary_line}
 use Rattle.relay_model.specs.Lines.{IsWritten, line_of, memory_line}
+use Rattle.relay_model.specs.World.{KeepsInputs, TellsOnly, World, world}
 
 abbrev pub IsSmall : Type 0
 IsSmall = (framing : Framing) (seed number count : ℕ) → length (text framing (payloads seed number count)) ≤ 99 * count
@@ -29,7 +34,7 @@ abbrev pub HasNoRest : Type 0
 HasNoRest = (job : Job) (seed count place : ℕ) → (translation job (input seed count job.input) true).verdict ≢ Rest place
 
 abbrev pub IsNeverOpen : Type 0
-IsNeverOpen = (job : Job) (x : List ℕ) → (translation job x true).verdict ≢ Open
+IsNeverOpen = (input output : Framing) (max : ℕ) (x : List ℕ) → (translation_between input output max x true).verdict ≢ Open
 
 -- what its verdict says of the end of a relay that read all
 ends_at_end : (seed count : ℕ) (job : Job) (taken written : ℕ) (v : Verdict) → (drilled seed count job).verdict ≡ v → v ≢ Open → ((place : ℕ) → v ≢ Rest place)
@@ -46,7 +51,7 @@ record Passed (seed count : ℕ) (job : Job) (taken dropped left written : List 
   pub end : ending ≡ taking.End → left ≡ []
   pub fault : ending ≡ taking.Fault → ⊥
   pub long : ending ≡ taking.Long → length taken ≡ job.limit
-  pub gone : (n : ℕ) → ending ≡ taking.Gone n → (status_of (outcome_of false ending (translation job taken (is_at_end ending)).verdict) ≡ 2) ⊎ (status_of (outcome_of false ending (translation job taken (is_at_end ending)).verdict) ≡ 5)
+  pub gone : (n : ℕ) → ending ≡ taking.Gone n → EndsEarly (outcome_of false ending (translation job taken (is_at_end ending)).verdict)
   pub whole : written ≡ (translation job taken (is_at_end ending)).text
 
 ends : (seed count : ℕ) (job : Job) (taken dropped left written : List ℕ) (ending : FillEnd) → BadStays → HasNoRest → IsNeverOpen → Passed seed count job taken dropped left written ending
@@ -55,16 +60,16 @@ ends seed count job taken dropped left written taking.End law no_rest no_open p 
     let same : input seed count job.input ≡ taken = all_taken (input seed count job.input) taken dropped left p.parts p.drop (p.end refl) in
     subst (λ (t : List ℕ). EndsAs seed count job (length t) (length written) (outcome_of false taking.End (translation job t true).verdict)) same
     (ends_at_end seed count job (length (input seed count job.input)) (length written) (drilled seed count job).verdict refl
-    (no_open job (input seed count job.input)) (no_rest job seed count) refl
+    (no_open job.input job.output job.max (input seed count job.input)) (no_rest job seed count) refl
     (ap (λ (t : List ℕ). length t) (p.whole ∙ ap (λ (t : List ℕ). (translation job t true).text) (sym same))))
 ends seed count job taken dropped left written taking.Fault law no_rest no_open p = absurd (p.fault refl)
 ends seed count job taken dropped left written taking.Long law no_rest no_open p =
     let size : length (input seed count job.input) ≡ (length taken + length dropped) + length left = ap length p.parts ∙ length-append (taken ++ dropped) left ∙ ap (λ (k : ℕ). k + length left) (length-append taken dropped) in
     absurd (omega (arith, p.fits, size, p.long refl))
 ends seed count job taken dropped left written (taking.Gone n) law no_rest no_open p =
-    let bad = bad_where_gone n (translation job taken false).verdict _ refl (p.gone n refl) in
+    let bad = bad_where_gone n (translation job taken false).verdict (p.gone n refl) in
     let all : input seed count job.input ≡ taken ++ left = p.parts ∙ ap (λ (t : List ℕ). (taken ++ t) ++ left) p.drop ∙ ap (λ (t : List ℕ). t ++ left) (append-nil taken) in
-    let stays : (drilled seed count job).verdict ≡ Bad bad.0 bad.1 = ap (λ (x : List ℕ). (translation job x true).verdict) all ∙ ap (λ t. t.verdict) (law job taken left true bad.0 bad.1 bad.2) ∙ bad.2 in
+    let stays : (drilled seed count job).verdict ≡ Bad bad.0 bad.1 = ap (λ (x : List ℕ). (translation job x true).verdict) all ∙ ap (λ t. t.verdict) (law job.input job.output job.max taken left true bad.0 bad.1 bad.2) ∙ bad.2 in
     subst (λ (v : Verdict). EndsAs seed count job (length taken) (length written) (outcome_of false (taking.Gone n) v)) (sym bad.2) stays
 
 no_fault : (before after : ℕ) → before ≡ 0 → after ≡ 0 → HasRisen before after → ⊥
@@ -102,63 +107,81 @@ ended law no_rest no_open small seed count job report sb sa kb ka given before a
 not_both : (v : Verdict) (place : ℕ) (kind : BadKind) → v ≡ End → v ≡ Bad place kind → ⊥
 not_both v place kind e b = absurd cc
 
-pub caused : (seed count : ℕ) (job : Job) (status : ℕ) (kb ka fb fa : SinkState) → Drills seed count job status kb ka fb fa → HasDrillCause seed count job status kb ka
-caused seed count job status kb ka fb fa (OutOfMemory s k line) = record {
+pub drill_caused : (seed count : ℕ) (job : Job) (status : Status) (was is : World) → Drills seed count job status was is → HasDrillCause seed count job status was.sink is.sink
+drill_caused seed count job status was is (HasNoMemory s untouched) = record {
   few = inr (inr (inr s));
-  bad = λ two. absurd (omega (arith, s, two));
+  bad = λ two. absurd cc;
   shows_bad = λ place kind v. inr s;
-  write_fault = λ five. absurd (omega (arith, s, five));
-  sink_failed = λ rose. absurd (omega (arith, rose, ap (λ (x : SinkState). x.faults) k));
+  write_fault = λ five. absurd cc;
+  sink_failed = λ rose. absurd (omega (arith, rose, ap (λ (x : SinkState). x.faults) untouched.tells.sink));
 }
-caused seed count job status kb ka fb fa (IsBad place kind v s k line) = record {
+drill_caused seed count job status was is (IsBad place kind v s untouched) = record {
   few = inr (inl s);
   bad = λ two. (place, kind, v);
   shows_bad = λ other how w. inl s;
-  write_fault = λ five. absurd (omega (arith, s, five));
-  sink_failed = λ rose. absurd (omega (arith, rose, ap (λ (x : SinkState). x.faults) k));
+  write_fault = λ five. absurd cc;
+  sink_failed = λ rose. absurd (omega (arith, rose, ap (λ (x : SinkState). x.faults) untouched.tells.sink));
 }
-caused seed count job status kb ka fb fa (IsSummed v s takes told) = record {
+drill_caused seed count job status was is (IsSummed v s keeps takes told) = record {
   few = inl s;
-  bad = λ two. absurd (omega (arith, s, two));
+  bad = λ two. absurd cc;
   shows_bad = λ place kind w. absurd (not_both (drilled seed count job).verdict place kind v w);
-  write_fault = λ five. absurd (omega (arith, s, five));
+  write_fault = λ five. absurd cc;
   sink_failed = λ rose. absurd (omega (arith, rose, takes.unfailed));
 }
-caused seed count job status kb ka fb fa (IsBrokenOff written v s front line) = record {
+drill_caused seed count job status was is (IsBrokenOff written v s keeps front line) = record {
   few = inr (inr (inl s));
-  bad = λ two. absurd (omega (arith, s, two));
+  bad = λ two. absurd cc;
   shows_bad = λ place kind w. absurd (not_both (drilled seed count job).verdict place kind v w);
   write_fault = λ five. front.risen;
   sink_failed = λ rose. s;
 }
 
-pub gained : (seed count : ℕ) (job : Job) (status : ℕ) (kb ka fb fa : SinkState) → Drills seed count job status kb ka fb fa → HasGained seed count job status kb ka
-gained seed count job status kb ka fb fa (OutOfMemory s k line) = record {
-  summed = λ zero. absurd (omega (arith, s, zero));
-  broken_off = λ five. absurd (omega (arith, s, five));
-  nothing = λ which. k;
+pub drill_gained : (seed count : ℕ) (job : Job) (status : Status) (was is : World) → Drills seed count job status was is → HasGained seed count job status was.sink is.sink
+drill_gained seed count job status was is (HasNoMemory s untouched) = record {
+  summed = λ zero. absurd cc;
+  broken_off = λ five. absurd cc;
+  nothing = λ which. untouched.tells.sink;
 }
-gained seed count job status kb ka fb fa (IsBad place kind v s k line) = record {
-  summed = λ zero. absurd (omega (arith, s, zero));
-  broken_off = λ five. absurd (omega (arith, s, five));
-  nothing = λ which. k;
+drill_gained seed count job status was is (IsBad place kind v s untouched) = record {
+  summed = λ zero. absurd cc;
+  broken_off = λ five. absurd cc;
+  nothing = λ which. untouched.tells.sink;
 }
-gained seed count job status kb ka fb fa (IsSummed v s takes told) = record {
+drill_gained seed count job status was is (IsSummed v s keeps takes told) = record {
   summed = λ zero. takes;
-  broken_off = λ five. absurd (omega (arith, s, five));
-  nothing = λ which. elim which [ inl two ↦ absurd (omega (arith, s, two)) | inr six ↦ absurd (omega (arith, s, six)) ];
+  broken_off = λ five. absurd cc;
+  nothing = λ which. elim which [ inl two ↦ absurd cc | inr six ↦ absurd cc ];
 }
-gained seed count job status kb ka fb fa (IsBrokenOff written v s front line) = record {
-  summed = λ zero. absurd (omega (arith, s, zero));
+drill_gained seed count job status was is (IsBrokenOff written v s keeps front line) = record {
+  summed = λ zero. absurd cc;
   broken_off = λ five. (written, front);
-  nothing = λ which. elim which [ inl two ↦ absurd (omega (arith, s, two)) | inr six ↦ absurd (omega (arith, s, six)) ];
+  nothing = λ which. elim which [ inl two ↦ absurd cc | inr six ↦ absurd cc ];
 }
 
-pub sums_up : (seed count : ℕ) (job : Job) (status : ℕ) (kb ka fb fa : SinkState) → Drills seed count job status kb ka fb fa → SumsUp seed count job status kb ka
-sums_up seed count job status kb ka fb fa (OutOfMemory s k line) sound lawful = inr s
-sums_up seed count job status kb ka fb fa (IsBad place kind v s k line) sound lawful = absurd (not_both (drilled seed count job).verdict place kind lawful v)
-sums_up seed count job status kb ka fb fa (IsSummed v s takes told) sound lawful = inl (s, takes)
-sums_up seed count job status kb ka fb fa (IsBrokenOff written v s front line) sound lawful = absurd (not_risen kb.faults ka.faults sound front.risen)
+pub drill_completed : (seed count : ℕ) (job : Job) (status : Status) (was is : World) → Drills seed count job status was is → SumsUp seed count job status was.sink is.sink
+drill_completed seed count job status was is (HasNoMemory s untouched) sound lawful = inr s
+drill_completed seed count job status was is (IsBad place kind v s untouched) sound lawful = absurd (not_both (drilled seed count job).verdict place kind lawful v)
+drill_completed seed count job status was is (IsSummed v s keeps takes told) sound lawful = inl (s, takes)
+drill_completed seed count job status was is (IsBrokenOff written v s keeps front line) sound lawful = absurd (not_risen was.sink.faults is.sink.faults sound front.risen)
+
+pub drill_whole : (seed count : ℕ) (job : Job) (status : Status) (was is : World) → Drills seed count job status was is → status ≡ exit.Clean → IsSummedUp seed count job was.sink is.sink
+drill_whole seed count job status was is (HasNoMemory s untouched) clean = absurd cc
+drill_whole seed count job status was is (IsBad place kind v s untouched) clean = absurd cc
+drill_whole seed count job status was is (IsSummed v s keeps takes told) clean = record { lawful = v; summed = takes }
+drill_whole seed count job status was is (IsBrokenOff written v s keeps front line) clean = absurd cc
+
+pub drill_keeps : (seed count : ℕ) (job : Job) (status : Status) (was is : World) → Drills seed count job status was is → KeepsInputs was is
+drill_keeps seed count job status was is (HasNoMemory s untouched) = record { source = untouched.tells.source; doors = untouched.doors }
+drill_keeps seed count job status was is (IsBad place kind v s untouched) = record { source = untouched.tells.source; doors = untouched.doors }
+drill_keeps seed count job status was is (IsSummed v s keeps takes told) = keeps
+drill_keeps seed count job status was is (IsBrokenOff written v s keeps front line) = keeps
+
+pub drill_untouched : (seed count : ℕ) (job : Job) (status : Status) (was is : World) → Drills seed count job status was is → status ≡ exit.OutOfMemory → TellsOnly memory_line was is
+drill_untouched seed count job status was is (HasNoMemory s untouched) memory = untouched
+drill_untouched seed count job status was is (IsBad place kind v s untouched) memory = absurd cc
+drill_untouched seed count job status was is (IsSummed v s keeps takes told) memory = absurd cc
+drill_untouched seed count job status was is (IsBrokenOff written v s keeps front line) memory = absurd cc
 
 -- ---- what a drill did
 
@@ -171,21 +194,25 @@ all_ended law no_rest no_open small seed count job (Err e) sb sa kb ka given bef
 same_summary : (seed count taken written : ℕ) (job : Job) → EndsAs seed count job taken written Clean → summary_line count taken written ≡ summary seed count job
 same_summary seed count taken written job ends = ap (λ (n : ℕ). summary_line count n written) ends.1 ∙ ap (λ (n : ℕ). summary_line count (length (input seed count job.input)) n) ends.2
 
-pub summed : (seed count taken written : ℕ) (job : Job) (line : List ℕ) (kb ka fb fa : SinkState) → line ≡ summary_line count taken written → Takes kb line ka → fa ≡ fb
-    → EndsAs seed count job taken written Clean → Drills seed count job 0 kb ka fb fa
-summed seed count taken written job line kb ka fb fa same takes untold ends =
-    IsSummed ends.0 refl (subst (λ (t : List ℕ). Takes kb t ka) (same ∙ same_summary seed count taken written job ends) takes) untold
+module _ (seed count : ℕ) (job : Job) (source : SourceState) (doors : DoorsState) (kb ka fb fa : SinkState) where
+  abbrev Drilled : Status → Type 0
+  Drilled status = Drills seed count job status (world source doors kb fb) (world source doors ka fa)
 
-pub broken_off : (seed count taken written : ℕ) (job : Job) (line told : List ℕ) (n : ℕ) (kb ka fb fa : SinkState) → line ≡ summary_line count taken written → TakesFront kb line n ka
-    → told ≡ line_of WriteFault 0 n → IsWritten told fb fa → EndsAs seed count job taken written Clean → Drills seed count job 5 kb ka fb fa
-broken_off seed count taken written job line told n kb ka fb fa same front says is_told ends =
-    IsBrokenOff n ends.0 refl (subst (λ (t : List ℕ). TakesFront kb t n ka) (same ∙ same_summary seed count taken written job ends) front)
-    (subst (λ (t : List ℕ). IsWritten t fb fa) says is_told)
+  pub summed : (taken written : ℕ) (line : List ℕ) → line ≡ summary_line count taken written → Takes kb line ka → fa ≡ fb → EndsAs seed count job taken written Clean → Drilled exit.Clean
+  summed taken written line same takes untold ends =
+      IsSummed ends.0 refl (record { source = refl; doors = refl }) (subst (λ (t : List ℕ). Takes kb t ka) (same ∙ same_summary seed count taken written job ends) takes) untold
 
-pub no_room : (seed count : ℕ) (job : Job) (kb ka fb fa : SinkState) → ka ≡ kb → IsWritten memory_line fb fa → Drills seed count job 6 kb ka fb fa
-no_room seed count job kb ka fb fa untouched told = OutOfMemory refl untouched told
+  pub broken_off : (taken written : ℕ) (line told : List ℕ) (n : ℕ) → line ≡ summary_line count taken written → TakesFront kb line n ka → told ≡ line_of WriteFault 0 n → IsWritten told fb fa
+      → EndsAs seed count job taken written Clean → Drilled exit.WriteFault
+  broken_off taken written line told n same front says is_told ends =
+      IsBrokenOff n ends.0 refl (record { source = refl; doors = refl }) (subst (λ (t : List ℕ). TakesFront kb t n ka) (same ∙ same_summary seed count taken written job ends) front)
+      (subst (λ (t : List ℕ). IsWritten t fb fa) says is_told)
 
--- the line of a bad frame doesn't tell what was moved
-pub is_bad : (seed count taken written place status : ℕ) (kind : BadKind) (job : Job) (told : List ℕ) (kb ka fb fa : SinkState) → EndsAs seed count job taken written (BadFrame place kind)
-    → status ≡ 2 → ka ≡ kb → IsWritten told fb fa → told ≡ line_of (BadFrame place kind) taken written → Drills seed count job status kb ka fb fa
-is_bad seed count taken written place status kind job told kb ka fb fa ends two untouched is_told says = IsBad place kind ends two untouched (subst (λ (t : List ℕ). IsWritten t fb fa) says is_told)
+  pub no_room : (status : Status) → status ≡ exit.OutOfMemory → ka ≡ kb → IsWritten memory_line fb fa → Drilled status
+  no_room status memory kept told = HasNoMemory memory (record { tells = record { source = refl; sink = kept; told = told }; doors = refl })
+
+  -- the line of a bad frame doesn't tell what was moved
+  pub is_bad : (taken written place : ℕ) (status : Status) (kind : BadKind) (told : List ℕ) → EndsAs seed count job taken written (BadFrame place kind) → status ≡ exit.BadFrame → ka ≡ kb → IsWritten told fb fa
+      → told ≡ line_of (BadFrame place kind) taken written → Drilled status
+  is_bad taken written place status kind told ends bad kept is_told says =
+      IsBad place kind ends bad (record { tells = record { source = refl; sink = kept; told = subst (λ (t : List ℕ). IsWritten t fb fa) says is_told }; doors = refl })

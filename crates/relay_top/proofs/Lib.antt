@@ -1,6 +1,6 @@
 mod BatchCauseLemmas
 mod BatchLemmas
+mod CommandLemmas
 mod DrillLemmas
 mod NameLemmas
 mod OpeningLemmas
-mod RelayLemmas

@@ -1,15 +1,16 @@
 -- What doors are once devices were opened and given back.
-use Rattle.std.proofs.Common.{◌≡◌, ◌≢◌, ◌<◌, ◌≤◌, ◌+◌, ◌-◌, ℕ, Bool, List, [], ◌∷◌, ◌++◌, length, Option, Some, None, refl, sym, ap, ◌∙◌, subst, arith, append-nil, append_assoc, inl, inr, zero, suc}
+use Rattle.std.proofs.Common.{◌≡◌, ◌<◌, ◌≤◌, ◌+◌, ◌-◌, ℕ, Bool, List, [], ◌∷◌, ◌++◌, length, Option, Some, None, refl, sym, ap, ◌∙◌, subst, arith, append-nil, append_assoc, inl, inr, zero, suc}
 use Rattle.std.specs.Prelude.{map, IfSome, option_map}
 use Rattle.std.specs.List.{AllZip, flat_map}
 use Rattle.std.proofs.lemmas.List.{length-append, length-map, map-append}
 use Rattle.std.proofs.lemmas.Grind.{flat_map-append}
 use Rattle.edge_core.specs.Device.{HasRisen, SinkState, SourceState}
-use Rattle.edge_core.specs.Doors.{CountsFaults, Device, DoorsState, FailsWith, OpensInlet, OpensOutlet, TakesBackInlet, TakesBackOutlet, Told, an_inlet, an_outlet, with_returned}
+use Rattle.edge_core.specs.Doors.{CountsFaults, Device, DoorsState, FailsWith, OpensInlet, TakesBackInlet, TakesBackOutlet, Told, an_inlet, an_outlet, with_returned}
 use Rattle.edge_core.specs.declared.doors.DoorError.{DoorError}
 use Rattle.edge_core.specs.declared.doors.DoorError.TheVariants.{Failed, OutOfMemory}
-use Rattle.relay_top.specs.Batch.{AreFresh, Devices, HasFirst, IsFreshInlet, both, faults_among, unused, with_all, with_unused}
-use Rattle.relay_top.specs.Opening.{FailsBehind, HasComeBack, IfFailed, OpensNotAll, RefusesOne, devices_of, with_out}
+use Rattle.relay_model.specs.Devices.{Devices, HasComeBack, both, devices_of, faults_among, with_all, with_out, with_unused}
+use Rattle.relay_top.specs.Batch.{AreFreshOf, HasFirst, IsFreshInletOf, unused}
+use Rattle.relay_top.specs.Opening.{FailsBehind, IfFailed, OpensNotAll, RefusesOne}
 
 -- ---- doors by their parts
 
@@ -155,7 +156,7 @@ mapped R f [] (y ∷ ys) all = absurd all
 mapped R f (x ∷ xs) [] all = absurd all
 mapped R f (x ∷ xs) (y ∷ ys) all = (all.0, mapped R f xs ys all.1)
 
-no_faults : (told : Option Told) (names : List (List ℕ)) (devices : List Devices) → AllZip (AreFresh told) names devices → faults_among (flat_map both devices) ≡ 0
+no_faults : (told : Option Told) (names : List (List ℕ)) (devices : List Devices) → AllZip (AreFreshOf told) names devices → faults_among (flat_map both devices) ≡ 0
 no_faults told [] [] all = refl
 no_faults told [] (d ∷ devices) all = absurd all
 no_faults told (name ∷ names) [] all = absurd all
@@ -182,11 +183,11 @@ record Left (before between found after : DoorsState) (devices : List Devices) (
   pub refusals_before : between.refusals ≡ before.refusals
   pub is : after ≡ record (with_unused (unused devices alone) before) { refusals = after.refusals }
 
-left_by : (before between found after : DoorsState) (done : List (List ℕ)) (devices : List Devices) (alone : Option SourceState) → AllZip (AreFresh before.told) done devices → between ≡ with_out (length done) before
+left_by : (before between found after : DoorsState) (done : List (List ℕ)) (devices : List Devices) (alone : Option SourceState) → AllZip (AreFreshOf before.told) done devices → between ≡ with_out (length done) before
     → found ≡ record (with_unused (unused [] alone) between) { refusals = found.refusals } → HasComeBack devices found after → Left before between found after devices alone
 left_by before between found after done devices alone fresh opened refused back =
     let none = no_faults before.told done devices fresh in
-    let size = same_length (AreFresh before.told) done devices fresh in
+    let size = same_length (AreFreshOf before.told) done devices fresh in
     record {
       refusals = ap (λ d. d.refusals) back.returned;
       refusals_before = ap (λ d. d.refusals) opened;
@@ -212,7 +213,7 @@ some_left : (error : DoorError) (names done rest : List (List ℕ)) (name : List
 some_left Failed names done rest name n parts size = let all = ap length parts ∙ length-append done (name ∷ rest) in omega (arith, all, size)
 some_left OutOfMemory names done rest name n parts size = tt
 
-pub refused_behind : (names done rest : List (List ℕ)) (name : List ℕ) (error : DoorError) (count : ℕ) (devices : List Devices) (before between found after : DoorsState) → names ≡ done ++ name ∷ rest → AllZip (AreFresh before.told) done devices
+pub refused_behind : (names done rest : List (List ℕ)) (name : List ℕ) (error : DoorError) (count : ℕ) (devices : List Devices) (before between found after : DoorsState) → names ≡ done ++ name ∷ rest → AllZip (AreFreshOf before.told) done devices
     → between ≡ with_out (length done) before → RefusesOne name error between found → HasComeBack devices found after → count ≡ length devices → OpensNotAll names error count before after
 refused_behind names done rest name error count devices before between found after parts fresh opened one back size = record {
   opened = devices;
@@ -222,10 +223,10 @@ refused_behind names done rest name error count devices before between found aft
     rest = name ∷ rest;
     parts = parts;
     fresh = fresh;
-    next = first_of (IsFreshInlet before.told) name rest one.alone (subst (λ (t : Option Told). IfSome one.alone (λ inlet. IsFreshInlet t name inlet)) (ap (λ d. d.told) opened) one.fresh);
+    next = first_of (IsFreshInletOf before.told) name rest one.alone (subst (λ (t : Option Told). IfSome one.alone (λ inlet. IsFreshInletOf t name inlet)) (ap (λ d. d.told) opened) one.fresh);
   };
   behind = size;
-  some = some_left error names done rest name (length devices) parts (same_length (AreFresh before.told) done devices fresh);
+  some = some_left error names done rest name (length devices) parts (same_length (AreFreshOf before.told) done devices fresh);
   fails = fails_on error before between found after devices one.alone one.fails
       (left_by before between found after done devices one.alone fresh opened (refused_as error one.alone between found one.fails) back);
 }
@@ -255,21 +256,21 @@ out_more n before between after first second =
 
 module _ {S T : Type 0} (bytes : S → List ℕ) (devices : T → Devices) (names done rest behind : List S) (name : S) (text : List ℕ) (tasks : List T) (before between : DoorsState) where
   abbrev AreOpen : List (List ℕ) → List T → Type 0
-  AreOpen texts opened = AllZip (λ n t. AreFresh before.told n (devices t)) texts opened
+  AreOpen texts opened = AllZip (λ n t. AreFreshOf before.told n (devices t)) texts opened
 
   texts_on : names ≡ done ++ rest → rest ≡ name ∷ behind → text ≡ bytes name → map bytes names ≡ map bytes done ++ text ∷ map bytes behind
   texts_on parts first is = ap (λ xs. map bytes xs) (parts ∙ ap (λ xs. done ++ xs) first) ∙ map-append bytes done (name ∷ behind) ∙ ap (λ (x : List ℕ). map bytes done ++ x ∷ map bytes behind) (sym is)
 
   pub opened_on : (task : T) (opened : List T) (after : DoorsState) → names ≡ done ++ rest → rest ≡ name ∷ behind → text ≡ bytes name → AreOpen (map bytes done) tasks → between ≡ with_out (length done) before
-      → AreFresh between.told text (devices task) → after ≡ with_out 1 between → opened ≡ tasks ++ task ∷ []
+      → AreFreshOf between.told text (devices task) → after ≡ with_out 1 between → opened ≡ tasks ++ task ∷ []
       → (through : List S) × (names ≡ through ++ behind) × AreOpen (map bytes through) opened × (after ≡ with_out (length through) before)
   opened_on task opened after parts first is are out fresh more pushed = (
     done ++ name ∷ [],
     parts ∙ ap (λ xs. done ++ xs) first ∙ sym (append_assoc done (name ∷ []) behind),
     subst (λ (ts : List T). AreOpen (map bytes (done ++ name ∷ [])) ts) (sym pushed)
         (subst (λ (xs : List (List ℕ)). AreOpen xs (tasks ++ task ∷ [])) (sym (map-append bytes done (name ∷ [])))
-        (one_more (λ n t. AreFresh before.told n (devices t)) (map bytes done) tasks (bytes name) task are
-        (subst (λ (x : List ℕ). AreFresh before.told x (devices task)) is (subst (λ (t : Option Told). AreFresh t text (devices task)) (ap (λ d. d.told) out) fresh)))),
+        (one_more (λ n t. AreFreshOf before.told n (devices t)) (map bytes done) tasks (bytes name) task are
+        (subst (λ (x : List ℕ). AreFreshOf before.told x (devices task)) is (subst (λ (t : Option Told). AreFreshOf t text (devices task)) (ap (λ d. d.told) out) fresh)))),
     out_more (length done) before between after out more ∙ ap (λ n. with_out n before) (sym (length-append done (name ∷ []))),
   )
 
@@ -277,13 +278,13 @@ module _ {S T : Type 0} (bytes : S → List ℕ) (devices : T → Devices) (name
       → RefusesOne text error between found → HasComeBack (map devices tasks) found after → count ≡ length tasks → OpensNotAll (map bytes names) error count before after
   refused_on error count found after parts first is are out one back size =
       refused_behind (map bytes names) (map bytes done) (map bytes behind) text error count (map devices tasks) before between found after (texts_on parts first is)
-      (mapped (AreFresh before.told) devices (map bytes done) tasks are) (out ∙ ap (λ n. with_out n before) (sym (length-map done bytes))) one back (size ∙ sym (length-map tasks devices))
+      (mapped (AreFreshOf before.told) devices (map bytes done) tasks are) (out ∙ ap (λ n. with_out n before) (sym (length-map done bytes))) one back (size ∙ sym (length-map tasks devices))
 
   pub enough_out : (error : DoorError) (found : DoorsState) → AreOpen (map bytes done) tasks → between ≡ with_out (length done) before → RefusesOne text error between found
       → (length tasks ≤ found.inlets_out) × (length tasks ≤ found.outlets_out)
   enough_out error found are out one =
       let same = still_out text error between found one in
-      let size = same_length (λ n t. AreFresh before.told n (devices t)) (map bytes done) tasks are in
+      let size = same_length (λ n t. AreFreshOf before.told n (devices t)) (map bytes done) tasks are in
       let mapped_size = length-map done bytes in
       let inlets = ap (λ d. d.inlets_out) out in
       let outlets = ap (λ d. d.outlets_out) out in

@@ -1,67 +1,88 @@
--- Which commands run on one thread, and what a relay does.
-use Rattle.std.specs.Prelude.{ℕ, ⊤, ◌≡◌, drop, ◌⊎◌, Bool, true, false, not, ◌||◌, List, [], ◌∷◌, codes}
-use Rattle.std.specs.Str.{bytes_eq}
-use Rattle.edge_core.specs.Device.{SourceState, SinkState}
-use Rattle.edge_core.specs.Doors.{DoorsState}
-use Rattle.frame_model.specs.declared.job.Job.{Job}
-use Rattle.relay_model.specs.Lines.{IsWritten, memory_line}
-use Rattle.relay_model.specs.Run.{IsRelayed}
-use Rattle.relay_top.specs.Batch.{Batches}
-use Rattle.relay_top.specs.Drill.{Drills}
+-- What is done, by the command that words ask for. A new command adds an arm to each definition that goes by `Command`.
+use Rattle.std.specs.Prelude.{ℕ, ⊤, ◌≡◌, ◌≢◌, drop, List, Option, Some, None, Result, Ok, Err, IfOk, IfSome}
+use Rattle.frame_grammar.specs.declared.job.Job.{Job}
+use Rattle.relay_model.specs.declared.status.Status.{Status}
+use Rattle.relay_model.specs.declared.status.Status.TheVariants as exit
+use Rattle.relay_model.specs.Answers.{Relays}
+use Rattle.relay_model.specs.Lines.{usage_line}
+use Rattle.relay_model.specs.Run.{HasCause, RelaysAll, TranslatesAll}
+use Rattle.relay_model.specs.World.{TellsOnly, World}
+use Rattle.relay_top.specs.Batch.{Batches, HasBatchCause, RelaysEach, TranslatesNames}
+use Rattle.relay_top.specs.Drill.{Drills, HasDrillCause, IsSummedUp}
+use Rattle.relay_words.specs.Words.{batch_of, command_of, drill_of, relay_of}
 use Rattle.relay_words.specs.declared.command.Command.{Command}
-use Rattle.relay_words.specs.declared.command.Command.TheVariants.{Copy, Pump, Drill, Batch}
+use Rattle.relay_words.specs.declared.command.Command.TheVariants.{Local, Threaded}
+use Rattle.relay_words.specs.declared.command.LocalCommand.TheVariants.{Copy}
+use Rattle.relay_words.specs.declared.command.ThreadedCommand.TheVariants.{Pump, Drill, Batch}
 
--- A first word that asks for more than one thread.
-abbrev pub is_threaded : List ℕ → Bool
-is_threaded word = bytes_eq word (codes "pump") || bytes_eq word (codes "drill") || bytes_eq word (codes "batch") || bytes_eq word (codes "serve")
+-- ---- what a command does
 
--- The first of these words asks for no more than one thread, or there is none.
-abbrev pub is_local : List (List ℕ) → Bool
-is_local [] = true
-is_local (command ∷ words) = not (is_threaded command)
+-- What the command of these words does, from a world as it was to what it is.
+abbrev pub Does : List (List ℕ) → Command → Status → World → World → Type 0
+Does words (Local (Copy job)) status was is = Relays job status was is
+Does words (Threaded (Pump job)) status was is = Relays job status was is
+Does words (Threaded (Drill seed count job)) status was is = Drills seed count job status was is
+Does words (Threaded (Batch workers job names_from)) status was is = Batches (drop names_from words) names_from job status was is
 
--- The command runs on one thread.
-abbrev pub runs_alone : Command → Bool
-runs_alone (Copy job) = true
-runs_alone (Pump job) = false
-runs_alone (Drill seed count job) = false
-runs_alone (Batch workers job names_from) = false
+-- The word of this index can't be read. Nothing has changed but that this was told.
+pub record RefusesWord (word : ℕ) (status : Status) (was is : World) : Type 0 where
+  pub ended : status ≡ exit.Usage
+  pub tells : TellsOnly (usage_line word) was is
 
--- There was no memory, and nothing was read or written but the line that says so; or a run passed.
-abbrev pub Relays : Job → ℕ → SourceState → SourceState → SinkState → SinkState → SinkState → SinkState → Type 0
-Relays job status source_before source_after sink_before sink_after faults_before faults_after =
-    ((status ≡ 6) × (source_after ≡ source_before) × (sink_after ≡ sink_before) × IsWritten memory_line faults_before faults_after)
-    ⊎ IsRelayed job status source_before source_after sink_before sink_after faults_before faults_after
+abbrev pub RunsAs : List (List ℕ) → Result Command ℕ → Status → World → World → Type 0
+RunsAs words (Ok command) status was is = Does words command status was is
+RunsAs words (Err word) status was is = RefusesWord word status was is
+
+-- What these words come to: their command does its work, or the word is told that can't be read.
+abbrev pub Runs : List (List ℕ) → Status → World → World → Type 0
+Runs words status was is = RunsAs words (command_of words) status was is
+
+-- ---- what a user wants of it
+
+-- Where no device failed and there was memory, the sink of each relay gained the translation of all that its source held.
+abbrev pub TranslatesAs : List (List ℕ) → Command → Status → World → World → Type 0
+TranslatesAs words (Local (Copy job)) status was is = status ≢ exit.OutOfMemory → TranslatesAll job was.source is.source was.sink is.sink
+TranslatesAs words (Threaded (Pump job)) status was is = status ≢ exit.OutOfMemory → TranslatesAll job was.source is.source was.sink is.sink
+TranslatesAs words (Threaded (Drill seed count job)) status was is = ⊤
+TranslatesAs words (Threaded (Batch workers job names_from)) status was is = TranslatesNames (drop names_from words) job status was.doors is.doors
+
+abbrev pub Translates : List (List ℕ) → Status → World → World → Type 0
+Translates words status was is = IfOk (command_of words) (λ command. TranslatesAs words command status was is)
+
+-- All that each source held was lawful, and all of it was relayed; or a drill's summary says so of what it made.
+abbrev pub IsWholeAs : List (List ℕ) → Command → World → World → Type 0
+IsWholeAs words (Local (Copy job)) was is = RelaysAll job was.source is.source was.sink is.sink
+IsWholeAs words (Threaded (Pump job)) was is = RelaysAll job was.source is.source was.sink is.sink
+IsWholeAs words (Threaded (Drill seed count job)) was is = IsSummedUp seed count job was.sink is.sink
+IsWholeAs words (Threaded (Batch workers job names_from)) was is = RelaysEach (drop names_from words) job was.doors is.doors
+
+abbrev pub IsWhole : List (List ℕ) → World → World → Type 0
+IsWhole words was is = IfOk (command_of words) (λ command. IsWholeAs words command was is)
+
+-- The status has its cause.
+abbrev pub IsCausedAs : Command → Status → World → World → Type 0
+IsCausedAs (Local (Copy job)) status was is = status ≢ exit.OutOfMemory → HasCause status was.source is.source was.sink is.sink
+IsCausedAs (Threaded (Pump job)) status was is = status ≢ exit.OutOfMemory → HasCause status was.source is.source was.sink is.sink
+IsCausedAs (Threaded (Drill seed count job)) status was is = HasDrillCause seed count job status was.sink is.sink
+IsCausedAs (Threaded (Batch workers job names_from)) status was is = HasBatchCause status was.doors is.doors was.sink is.sink
+
+abbrev pub IsCaused : List (List ℕ) → Status → World → World → Type 0
+IsCaused words status was is = IfOk (command_of words) (λ command. IsCausedAs command status was is)
+
+-- ---- of some commands alone
 
 -- This holds of the job, where the command relays the source.
 abbrev pub IfRelay : Command → (Job → Type 0) → Type 0
-IfRelay (Copy job) P = P job
-IfRelay (Pump job) P = P job
-IfRelay (Drill seed count job) P = ⊤
-IfRelay (Batch workers job names_from) P = ⊤
+IfRelay command P = IfSome (relay_of command) P
 
 -- This holds of its numbers and its job, where the command is a drill.
 abbrev pub IfDrill : Command → (ℕ → ℕ → Job → Type 0) → Type 0
-IfDrill (Copy job) P = ⊤
-IfDrill (Pump job) P = ⊤
-IfDrill (Drill seed count job) P = P seed count job
-IfDrill (Batch workers job names_from) P = ⊤
+IfDrill command P = IfSome (drill_of command) (λ drill. P drill.0 drill.1 drill.2)
+
+abbrev pub Unless : {A : Type 0} → Option A → Type 0 → Type 0
+Unless None P = P
+Unless (Some it) P = ⊤
 
 -- This holds, where the command isn't a batch.
 abbrev pub UnlessBatch : Command → Type 0 → Type 0
-UnlessBatch (Copy job) P = P
-UnlessBatch (Pump job) P = P
-UnlessBatch (Drill seed count job) P = P
-UnlessBatch (Batch workers job names_from) P = ⊤
-
--- What the command of some words does: it relays the source, or it leaves the source as it is and drills, or relays what its names have.
--- All but a batch leave the doors as they are.
-abbrev pub Runs : List (List ℕ) → Command → ℕ → SourceState → SourceState → DoorsState → DoorsState → SinkState → SinkState → SinkState → SinkState → Type 0
-Runs words (Copy job) status source_before source_after before after sink_before sink_after faults_before faults_after =
-    (after ≡ before) × Relays job status source_before source_after sink_before sink_after faults_before faults_after
-Runs words (Pump job) status source_before source_after before after sink_before sink_after faults_before faults_after =
-    (after ≡ before) × Relays job status source_before source_after sink_before sink_after faults_before faults_after
-Runs words (Drill seed count job) status source_before source_after before after sink_before sink_after faults_before faults_after =
-    (after ≡ before) × (source_after ≡ source_before) × Drills seed count job status sink_before sink_after faults_before faults_after
-Runs words (Batch workers job names_from) status source_before source_after before after sink_before sink_after faults_before faults_after =
-    (source_after ≡ source_before) × Batches (drop names_from words) names_from job status before after sink_before sink_after faults_before faults_after
+UnlessBatch command P = Unless (batch_of command) P

@@ -2,13 +2,17 @@
 use Rattle.std.specs.Prelude.{ℕ, ⊤, ◌≡◌, ◌<◌, ◌⊎◌, true, List, ◌++◌, length, codes, decimal}
 use Rattle.edge_core.specs.Device.{SinkState, HasNotRisen, HasRisen, Takes, TakesFront}
 use Rattle.frame_model.specs.declared.framing.BadKind.{BadKind}
-use Rattle.frame_model.specs.declared.job.Job.{Job}
-use Rattle.frame_model.specs.declared.ending.Outcome.{Outcome}
-use Rattle.frame_model.specs.declared.ending.Outcome.TheVariants.{Clean, BadFrame, WriteFault}
+use Rattle.frame_grammar.specs.declared.job.Job.{Job}
+use Rattle.relay_model.specs.declared.ending.Outcome.{Outcome}
+use Rattle.relay_model.specs.declared.ending.Outcome.TheVariants.{Clean, BadFrame, WriteFault}
 use Rattle.frame_model.specs.Cut.{Bad, End}
-use Rattle.frame_model.specs.Translation.{Translation, translation}
+use Rattle.frame_model.specs.Translation.{Translation}
+use Rattle.frame_grammar.specs.Job.{translation}
 use Rattle.gen_core.specs.Generator.{input}
+use Rattle.relay_model.specs.declared.status.Status.{Status}
+use Rattle.relay_model.specs.declared.status.Status.TheVariants as exit
 use Rattle.relay_model.specs.Lines.{IsWritten, line_of, memory_line}
+use Rattle.relay_model.specs.World.{KeepsInputs, TellsOnly, World}
 
 -- The translation of the generated input, to its end.
 abbrev pub drilled : ℕ → ℕ → Job → Translation
@@ -30,41 +34,44 @@ EndsAs seed count job taken written (BadFrame place kind) = (drilled seed count 
 EndsAs seed count job taken written WriteFault = ⊤
 EndsAs seed count job taken written other = ⊥
 
--- What a drill answers, and what it writes to its sink and to the sink for faults.
-pub data Drills (seed count : ℕ) (job : Job) (status : ℕ) (sink_before sink_after faults_before faults_after : SinkState) : Type 0 where
+-- What a drill answers and does. It reads nothing of the source, and opens nothing.
+pub data Drills (seed count : ℕ) (job : Job) (status : Status) (was is : World) : Type 0 where
   -- There was no memory for it.
-  OutOfMemory : status ≡ 6 → sink_after ≡ sink_before → IsWritten memory_line faults_before faults_after
-      → Drills seed count job status sink_before sink_after faults_before faults_after
+  HasNoMemory : status ≡ exit.OutOfMemory → TellsOnly memory_line was is → Drills seed count job status was is
   -- The generated input has a bad frame, which the line tells.
-  IsBad : (place : ℕ) (kind : BadKind) → (drilled seed count job).verdict ≡ Bad place kind → status ≡ 2 → sink_after ≡ sink_before
-      → IsWritten (line_of (BadFrame place kind) 0 0) faults_before faults_after
-      → Drills seed count job status sink_before sink_after faults_before faults_after
+  IsBad : (place : ℕ) (kind : BadKind) → (drilled seed count job).verdict ≡ Bad place kind → status ≡ exit.BadFrame
+      → TellsOnly (line_of (BadFrame place kind) 0 0) was is → Drills seed count job status was is
   -- All of it is lawful, and its summary was written.
-  IsSummed : (drilled seed count job).verdict ≡ End → status ≡ 0 → Takes sink_before (summary seed count job) sink_after → faults_after ≡ faults_before
-      → Drills seed count job status sink_before sink_after faults_before faults_after
+  IsSummed : (drilled seed count job).verdict ≡ End → status ≡ exit.Clean → KeepsInputs was is
+      → Takes was.sink (summary seed count job) is.sink → is.faults ≡ was.faults → Drills seed count job status was is
   -- All of it is lawful, and a write or the flush of its summary failed behind so many bytes.
-  IsBrokenOff : (written : ℕ) → (drilled seed count job).verdict ≡ End → status ≡ 5 → TakesFront sink_before (summary seed count job) written sink_after
-      → IsWritten (line_of WriteFault 0 written) faults_before faults_after
-      → Drills seed count job status sink_before sink_after faults_before faults_after
+  IsBrokenOff : (written : ℕ) → (drilled seed count job).verdict ≡ End → status ≡ exit.WriteFault → KeepsInputs was is
+      → TakesFront was.sink (summary seed count job) written is.sink → IsWritten (line_of WriteFault 0 written) was.faults is.faults
+      → Drills seed count job status was is
 
 -- ---- what follows
 
 -- Each status of a drill has its cause.
-pub record HasDrillCause (seed count : ℕ) (job : Job) (status : ℕ) (sink_before sink_after : SinkState) : Type 0 where
-  pub few : (status ≡ 0) ⊎ (status ≡ 2) ⊎ (status ≡ 5) ⊎ (status ≡ 6)
-  pub bad : status ≡ 2 → (place : ℕ) × (kind : BadKind) × ((drilled seed count job).verdict ≡ Bad place kind)
-  pub shows_bad : (place : ℕ) (kind : BadKind) → (drilled seed count job).verdict ≡ Bad place kind → (status ≡ 2) ⊎ (status ≡ 6)
-  pub write_fault : status ≡ 5 → HasRisen sink_before.faults sink_after.faults
-  pub sink_failed : sink_before.faults < sink_after.faults → status ≡ 5
+pub record HasDrillCause (seed count : ℕ) (job : Job) (status : Status) (sink_before sink_after : SinkState) : Type 0 where
+  pub few : (status ≡ exit.Clean) ⊎ (status ≡ exit.BadFrame) ⊎ (status ≡ exit.WriteFault) ⊎ (status ≡ exit.OutOfMemory)
+  pub bad : status ≡ exit.BadFrame → (place : ℕ) × (kind : BadKind) × ((drilled seed count job).verdict ≡ Bad place kind)
+  pub shows_bad : (place : ℕ) (kind : BadKind) → (drilled seed count job).verdict ≡ Bad place kind → (status ≡ exit.BadFrame) ⊎ (status ≡ exit.OutOfMemory)
+  pub write_fault : status ≡ exit.WriteFault → HasRisen sink_before.faults sink_after.faults
+  pub sink_failed : sink_before.faults < sink_after.faults → status ≡ exit.WriteFault
+
+-- All that was generated is lawful, and its summary was written.
+pub record IsSummedUp (seed count : ℕ) (job : Job) (sink_before sink_after : SinkState) : Type 0 where
+  pub lawful : (drilled seed count job).verdict ≡ End
+  pub summed : Takes sink_before (summary seed count job) sink_after
 
 -- What a drill has written to its sink, by its status.
-pub record HasGained (seed count : ℕ) (job : Job) (status : ℕ) (sink_before sink_after : SinkState) : Type 0 where
-  pub summed : status ≡ 0 → Takes sink_before (summary seed count job) sink_after
-  pub broken_off : status ≡ 5 → (written : ℕ) × TakesFront sink_before (summary seed count job) written sink_after
-  pub nothing : (status ≡ 2) ⊎ (status ≡ 6) → sink_after ≡ sink_before
+pub record HasGained (seed count : ℕ) (job : Job) (status : Status) (sink_before sink_after : SinkState) : Type 0 where
+  pub summed : status ≡ exit.Clean → Takes sink_before (summary seed count job) sink_after
+  pub broken_off : status ≡ exit.WriteFault → (written : ℕ) × TakesFront sink_before (summary seed count job) written sink_after
+  pub nothing : (status ≡ exit.BadFrame) ⊎ (status ≡ exit.OutOfMemory) → sink_after ≡ sink_before
 
 -- Where the sink didn't fail and the generated input is lawful, the summary was written, or there was no memory.
-abbrev pub SumsUp : ℕ → ℕ → Job → ℕ → SinkState → SinkState → Type 0
+abbrev pub SumsUp : ℕ → ℕ → Job → Status → SinkState → SinkState → Type 0
 SumsUp seed count job status sink_before sink_after =
     HasNotRisen sink_before.faults sink_after.faults → (drilled seed count job).verdict ≡ End →
-    ((status ≡ 0) × Takes sink_before (summary seed count job) sink_after) ⊎ (status ≡ 6)
+    ((status ≡ exit.Clean) × Takes sink_before (summary seed count job) sink_after) ⊎ (status ≡ exit.OutOfMemory)

@@ -1,7 +1,9 @@
 //! A batch: many names, each with a source that is relayed to a sink.
 
 ghost use Rattle.std.specs.Prelude.{◌<◌, ◌≤◌, ◌+◌, ◌^◌, length};
-ghost use Rattle.frame_model.specs.Job.{IsInRange};
+ghost use Rattle.frame_grammar.specs.Job.{IsInRange};
+ghost use Rattle.edge_core.specs.Device.{SourceState};
+ghost use Rattle.relay_model.specs.World.{world};
 ghost use Rattle.relay_words.specs.Names.{AreNames};
 ghost use Rattle.relay_words.specs.Words.{texts};
 ghost use Rattle.relay_top.specs.Batch.{Batches};
@@ -9,10 +11,11 @@ ghost use Rattle.relay_top.specs.Opening.{IfFailed, TellsRefusal};
 
 use crate::doors::{Refusal, give_back_all, open_all};
 use crate::name_lines::{LINE, sum_up};
-use crate::telling::{DOOR_FAULT, OUT_OF_MEMORY, report_on};
+use crate::telling::{report_on, tell_no_memory};
 use edge_core::{DoorError, Doors, Sink};
 use frame_grammar::Job;
 use relay_engine::Told;
+use relay_model::Status;
 use relay_threads::batch as relay_all;
 use std::alloc::Global;
 use std::thread::Threads;
@@ -29,34 +32,33 @@ pub(crate) fn batch<R: Threads + Sync, K: Sink, E: Sink, D: Doors>(
     sink: &mut K,
     faults: &mut E,
     doors: &mut D,
-) -> u8
+) -> Status
     requires workers { (1 ≤ workers) × (workers ≤ 16) }
     requires range { IsInRange job.now }
     requires names { AreNames (texts names.now) }
     requires few { first + length names.now < 2 ^ 32 }
-    ensures { Batches (texts names.now) first job.now result (D.state doors.old) (D.state doors.new) (K.state sink.old) (K.state sink.new) (E.state faults.old) (E.state faults.new) }
+    ensures { (source : SourceState) → Batches (texts names.now) first job.now result
+        (world source (D.state doors.old) (K.state sink.old) (E.state faults.old)) (world source (D.state doors.new) (K.state sink.new) (E.state faults.new)) }
 {
     let (Ok(lines), Ok(answers)) = (
         Vec::with_capacity(alloc, LINE * names.len()),
         Vec::with_capacity(alloc, names.len()),
     ) else {
-        report_on(faults, Told::Memory);
-        return OUT_OF_MEMORY;
+        return tell_no_memory(faults);
     };
     let tasks = match open_all(alloc, names, doors) {
         Ok(tasks) => tasks,
         Err(refusal) => return tell_refusal(refusal, first, faults),
     };
     let Ok(finished) = relay_all(rt, alloc, tasks, workers, job) else {
-        report_on(faults, Told::Memory);
-        return OUT_OF_MEMORY;
+        return tell_no_memory(faults);
     };
     let answers = give_back_all(finished, answers, doors);
     sum_up(names, answers.as_slice(), lines, sink, faults)
 }
 
 /// Tells why not all names were opened.
-fn tell_refusal<E: Sink>(refusal: Refusal, first: usize, faults: &mut E) -> u8
+fn tell_refusal<E: Sink>(refusal: Refusal, first: usize, faults: &mut E) -> Status
     requires { IfFailed refusal.error (first + refusal.opened < 2 ^ 64) }
     ensures { TellsRefusal refusal.error (first + refusal.opened) result (E.state faults.old) (E.state faults.new) }
 {
@@ -64,11 +66,8 @@ fn tell_refusal<E: Sink>(refusal: Refusal, first: usize, faults: &mut E) -> u8
         DoorError::Failed => {
             let word = first + refusal.opened;
             report_on(faults, Told::Door { word });
-            DOOR_FAULT
+            Status::DoorFault
         }
-        DoorError::OutOfMemory => {
-            report_on(faults, Told::Memory);
-            OUT_OF_MEMORY
-        }
+        DoorError::OutOfMemory => tell_no_memory(faults),
     }
 }

@@ -3,13 +3,14 @@
 ghost use Rattle.std.specs.Prelude.{◌≡◌, ◌≢◌, ◌≤◌, ◌∷◌, [], length, map, vec_capacity, vec_len, IfErr, IfOk};
 ghost use Rattle.std.specs.List.{AllZip};
 ghost use Rattle.relay_words.specs.Words.{texts};
-ghost use Rattle.relay_top.specs.Batch.{AreFresh, answers};
-ghost use Rattle.relay_top.specs.Opening.{HasComeBack, OpensNotAll, RefusesOne, devices_of, with_out};
+ghost use Rattle.relay_model.specs.Devices.{HasComeBack, devices_of, with_out};
+ghost use Rattle.relay_top.specs.Batch.{AreFreshOf};
+ghost use Rattle.relay_top.specs.Opening.{OpensNotAll, RefusesOne};
 
 use edge_core::{DoorError, Doors};
-use frame_model::Report;
+use relay_model::Answer;
 use relay_threads::{Finished, Task};
-use std::alloc::{AllocError, Global};
+use std::alloc::Global;
 
 /// Why not all names were opened: how an opening ended, behind so many names whose two devices were open.
 #[derive(Clone, Copy)]
@@ -17,9 +18,6 @@ pub(crate) struct Refusal {
     pub(crate) error: DoorError,
     pub(crate) opened: usize,
 }
-
-/// How a relay is reported, or that there was no memory for it.
-pub(crate) type Answer = Result<Report, AllocError>;
 
 /// Opens each name's source and then its sink, in the order of the names. Where one isn't opened, all that are open are given
 /// back, the source of that name first.
@@ -29,7 +27,7 @@ pub(crate) fn open_all<D: Doors>(
     doors: &mut D,
 ) -> Result<Vec<Task<D::Inlet, D::Outlet>>, Refusal>
     ensures fresh { IfOk result (λ tasks. AllZip (λ name task.
-        AreFresh (D.state doors.old).told name (devices_of (D.Inlet.state task.inlet) (D.Outlet.state task.outlet))) (texts names.now) tasks.items) }
+        AreFreshOf (D.state doors.old).told name (devices_of (D.Inlet.state task.inlet) (D.Outlet.state task.outlet))) (texts names.now) tasks.items) }
     ensures out { IfOk result (λ tasks. D.state doors.new ≡ with_out (length names.now) (D.state doors.old)) }
     ensures refused { IfErr result (λ refusal. OpensNotAll (texts names.now) refusal.error refusal.opened (D.state doors.old) (D.state doors.new)) }
 {
@@ -65,7 +63,7 @@ fn open<D: Doors>(
     name: &str,
     doors: &mut D,
 ) -> Result<Task<D::Inlet, D::Outlet>, DoorError>
-    ensures fresh { IfOk result (λ task. AreFresh (D.state doors.old).told name.now (devices_of (D.Inlet.state task.inlet) (D.Outlet.state task.outlet))) }
+    ensures fresh { IfOk result (λ task. AreFreshOf (D.state doors.old).told name.now (devices_of (D.Inlet.state task.inlet) (D.Outlet.state task.outlet))) }
     ensures out { IfOk result (λ task. D.state doors.new ≡ with_out 1 (D.state doors.old)) }
     ensures refused { IfErr result (λ error. RefusesOne name.now error (D.state doors.old) (D.state doors.new)) }
 {

@@ -1,19 +1,23 @@
 //! A drill: a large lawful input that is made from a number, and relayed into memory.
 
 ghost use Rattle.std.specs.Prelude.{◌≡◌, ◌≤◌, ◌^◌, ℕ, IfOk, string_bytes};
-ghost use Rattle.frame_model.specs.Job.{IsInRange};
-ghost use Rattle.frame_model.specs.declared.job.Job.{Job as JobState};
-ghost use Rattle.frame_model.specs.declared.ending.Outcome.TheVariants.{Clean};
+ghost use Rattle.frame_grammar.specs.Job.{IsInRange};
+ghost use Rattle.frame_grammar.specs.declared.job.Job.{Job as JobState};
+ghost use Rattle.relay_model.specs.declared.ending.Outcome.TheVariants.{Clean};
+ghost use Rattle.edge_core.specs.Device.{SourceState};
+ghost use Rattle.edge_core.specs.Doors.{DoorsState};
+ghost use Rattle.relay_model.specs.World.{world};
 ghost use Rattle.relay_top.specs.Drill.{Drills, EndsAs, summary_line};
 
 use crate::pumping::pump_and_settle;
-use crate::summary::{CLEAN, WRITE_FAULT, told_of, write_summary};
-use crate::telling::{OUT_OF_MEMORY, report_on};
+use crate::summary::{told_of, write_summary};
+use crate::telling::{report_on, tell_no_memory};
 use edge_core::{MemSink, Sink};
 use frame_grammar::Job;
-use frame_model::{Outcome, Report, bad_stays_bad, open_until_the_end};
+use frame_model::{bad_stays_bad, open_until_the_end};
 use gen_core::{GenSource, generated_has_no_rest, generated_is_small};
-use relay_engine::{Told, status_of};
+use relay_engine::Told;
+use relay_model::{Outcome, Report, Status, status_of};
 use std::alloc::{AllocError, Global};
 use std::sync::Wait;
 use std::thread::Threads;
@@ -31,15 +35,15 @@ pub(crate) fn drill<R: Wait + Threads + Sync, K: Sink, E: Sink>(
     job: &Job,
     sink: &mut K,
     faults: &mut E,
-) -> u8
+) -> Status
     requires range { IsInRange job.now }
     requires limit { job.now.limit ≡ 2 ^ 40 }
     requires few { count ≤ 1000000 }
-    ensures { Drills seed count job.now result (K.state sink.old) (K.state sink.new) (E.state faults.old) (E.state faults.new) }
+    ensures { (source : SourceState) (doors : DoorsState) → Drills seed count job.now result
+        (world source doors (K.state sink.old) (E.state faults.old)) (world source doors (K.state sink.new) (E.state faults.new)) }
 {
     let Ok(report) = relay_into_memory(rt, alloc, seed, count, job) else {
-        report_on(faults, Told::Memory);
-        return OUT_OF_MEMORY;
+        return tell_no_memory(faults);
     };
     match report.outcome {
         Outcome::Clean => sum_up(alloc, count, &report, sink, faults),
@@ -47,10 +51,7 @@ pub(crate) fn drill<R: Wait + Threads + Sync, K: Sink, E: Sink>(
             report_on(faults, Told::Relay { report });
             status_of(report.outcome)
         }
-        Outcome::WriteFault => {
-            report_on(faults, Told::Memory);
-            OUT_OF_MEMORY
-        }
+        Outcome::WriteFault => tell_no_memory(faults),
         _ => unreachable!(),
     }
 }
@@ -85,19 +86,19 @@ fn sum_up<K: Sink, E: Sink>(
     report: &Report,
     sink: &mut K,
     faults: &mut E,
-) -> u8
-    ensures { (seed : ℕ) (job : JobState) → EndsAs seed count job report.now.taken report.now.written Clean →
-        Drills seed count job result (K.state sink.old) (K.state sink.new) (E.state faults.old) (E.state faults.new) }
+) -> Status
+    ensures { (seed : ℕ) (job : JobState) (source : SourceState) (doors : DoorsState) → EndsAs seed count job report.now.taken report.now.written Clean →
+        Drills seed count job result
+        (world source doors (K.state sink.old) (E.state faults.old)) (world source doors (K.state sink.new) (E.state faults.new)) }
 {
     let Ok(line) = summary(alloc, count, report.taken, report.written) else {
-        report_on(faults, Told::Memory);
-        return OUT_OF_MEMORY;
+        return tell_no_memory(faults);
     };
     match write_summary(sink, line.as_bytes()) {
-        Ok(()) => CLEAN,
+        Ok(()) => Status::Clean,
         Err(broken) => {
             report_on(faults, told_of(broken));
-            WRITE_FAULT
+            Status::WriteFault
         }
     }
 }

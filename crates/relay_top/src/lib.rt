@@ -4,6 +4,7 @@
 mod batching;
 mod doors;
 mod drill;
+mod laws;
 mod local;
 mod name_lines;
 mod pumping;
@@ -11,5 +12,10 @@ mod summary;
 mod telling;
 mod threaded;
 
-pub use local::{is_local, relay_local};
+pub use laws::{
+    what_batches_do, what_drills_do, what_is_untouched, what_relays_do, what_runs_come_to,
+};
+pub use local::relay_local;
+pub use relay_model::Status;
+pub use relay_words::is_local;
 pub use threaded::relay_main;

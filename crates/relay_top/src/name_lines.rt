@@ -1,19 +1,17 @@
-//! The lines of a batch, one for each name, and the line of the first name whose status isn't 0.
+//! The lines of a batch, one for each name, and the line of the first name whose status isn't clean.
 
 ghost use Rattle.std.specs.Prelude.{◌≡◌, ◌≤◌, ◌+◌, ◌*◌, ◌++◌, [], length, vec_capacity, vec_len};
 ghost use Rattle.std.specs.List.{All};
 ghost use Rattle.relay_model.specs.Lines.{IsWritten};
-ghost use Rattle.relay_engine.specs.Tell.{told_line};
 ghost use Rattle.relay_words.specs.Names.{IsName};
 ghost use Rattle.relay_words.specs.Words.{texts};
-ghost use Rattle.relay_top.specs.Batch.{EndsLike, Sums, cause_of_answer, fault_line, first_failed, frames_of_answer, name_line, name_lines as name_lines_of, status_of_answer};
+ghost use Rattle.relay_model.specs.Answers.{EndsLike, Sums, answer_line, answer_lines, fault_line, first_failed};
 
-use crate::doors::Answer;
-use crate::summary::{CLEAN, WRITE_FAULT, told_of, write_summary};
-use crate::telling::{OUT_OF_MEMORY, report_on};
+use crate::summary::{told_of, write_summary};
+use crate::telling::{cause_of, report_on};
 use edge_core::{Sink, write_all};
 use itoa::Buffer;
-use relay_engine::{Told, status_of};
+use relay_model::{Answer, Status, frames_of_answer, status_of_answer};
 
 /// How many bytes the line of a name has at most: 255 of the name, 3 of its status, 20 of a number of frames, and 3 between
 /// and behind them.
@@ -26,7 +24,7 @@ pub(crate) fn sum_up<K: Sink, E: Sink>(
     lines: Vec<u8>,
     sink: &mut K,
     faults: &mut E,
-) -> u8
+) -> Status
     requires empty { lines.items ≡ [] }
     requires room { 281 * length names.now ≤ vec_capacity lines }
     requires names { All IsName (texts names.now) }
@@ -38,7 +36,7 @@ pub(crate) fn sum_up<K: Sink, E: Sink>(
         Ok(()) => end_like_first(names, answers, faults),
         Err(broken) => {
             report_on(faults, told_of(broken));
-            WRITE_FAULT
+            Status::WriteFault
         }
     }
 }
@@ -49,7 +47,7 @@ fn name_lines(names: &[String], answers: &[Answer], lines: Vec<u8>) -> Vec<u8>
     requires room { 281 * length names.now ≤ vec_capacity lines }
     requires names { All IsName (texts names.now) }
     requires each { length answers.now ≡ length names.now }
-    ensures { result.items ≡ name_lines_of (texts names.now) answers.now }
+    ensures { result.items ≡ answer_lines (texts names.now) answers.now }
 {
     let mut lines = lines;
     let (mut names, mut answers) = (names, answers);
@@ -67,13 +65,13 @@ fn name_lines(names: &[String], answers: &[Answer], lines: Vec<u8>) -> Vec<u8>
 fn add_line(lines: &mut Vec<u8>, name: &str, answer: &Answer)
     requires short { length name.now ≤ 255 }
     requires room { vec_len lines.old + 281 ≤ vec_capacity lines.old }
-    ensures added { lines.new.items ≡ lines.old.items ++ name_line name.now answer.now }
+    ensures added { lines.new.items ≡ lines.old.items ++ answer_line name.now answer.now }
     ensures capacity { vec_capacity lines.old ≤ vec_capacity lines.new }
     ensures len { vec_len lines.new ≤ vec_len lines.old + 281 }
 {
     let (mut status_digits, mut frames_digits) = (Buffer::new(), Buffer::new());
-    let status = status_digits.format(status_of_name(answer));
-    let frames = frames_digits.format(frames_of_name(answer));
+    let status = status_digits.format(status_of_answer(answer).number());
+    let frames = frames_digits.format(frames_of_answer(answer));
     add(lines, name.as_bytes());
     add(lines, b" ");
     add(lines, status.as_bytes());
@@ -94,26 +92,8 @@ fn add(lines: &mut Vec<u8>, piece: &[u8])
     };
 }
 
-fn status_of_name(answer: &Answer) -> u8
-    ensures { result ≡ status_of_answer answer.now }
-{
-    match answer {
-        Ok(report) => status_of(report.outcome),
-        Err(_) => OUT_OF_MEMORY,
-    }
-}
-
-fn frames_of_name(answer: &Answer) -> u64
-    ensures { result ≡ frames_of_answer answer.now }
-{
-    match answer {
-        Ok(report) => report.frames,
-        Err(_) => 0,
-    }
-}
-
-/// Tells of the first name whose status isn't 0, and answers that status.
-fn end_like_first<E: Sink>(names: &[String], answers: &[Answer], faults: &mut E) -> u8
+/// Tells of the first name whose status isn't clean, and answers that status.
+fn end_like_first<E: Sink>(names: &[String], answers: &[Answer], faults: &mut E) -> Status
     requires { length answers.now ≡ length names.now }
     ensures { EndsLike (first_failed (texts names.now) answers.now) result (E.state faults.old) (E.state faults.new) }
 {
@@ -122,14 +102,14 @@ fn end_like_first<E: Sink>(names: &[String], answers: &[Answer], faults: &mut E)
         let Some((answer, other_answers)) = answers.split_first() else {
             unreachable!()
         };
-        let status = status_of_name(answer);
-        if status != 0 {
+        let status = status_of_answer(answer);
+        if !status.is_clean() {
             report_on_name(faults, name.as_str(), answer);
             return status;
         }
         (names, answers) = (other_names, other_answers);
     }
-    CLEAN
+    Status::Clean
 }
 
 /// Writes the line of a name, as far as no write fails.
@@ -143,13 +123,4 @@ fn report_on_name<E: Sink>(faults: &mut E, name: &str, answer: &Answer)
         return;
     };
     report_on(faults, cause_of(answer));
-}
-
-fn cause_of(answer: &Answer) -> Told
-    ensures { told_line result ≡ cause_of_answer answer.now }
-{
-    match answer {
-        Ok(report) => Told::Relay { report: *report },
-        Err(_) => Told::Memory,
-    }
 }

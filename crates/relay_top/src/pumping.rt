@@ -1,12 +1,12 @@
 //! A relay on two threads whose pipe is closed.
 
 ghost use Rattle.std.specs.Prelude.{◌≡◌, IfOk, OnErr};
-ghost use Rattle.frame_model.specs.Job.{IsInRange};
+ghost use Rattle.frame_grammar.specs.Job.{IsInRange};
 ghost use Rattle.relay_model.specs.Run.{IsReported};
 
 use edge_core::{Sink, Source};
 use frame_grammar::Job;
-use frame_model::Report;
+use relay_model::Report;
 use relay_threads::{pump, settle, settled_pump_is_reported};
 use std::alloc::{AllocError, Global};
 use std::sync::Wait;

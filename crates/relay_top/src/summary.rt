@@ -2,19 +2,13 @@
 
 ghost use Rattle.std.specs.Prelude.{◌≡◌, IfErr, OnOk};
 ghost use Rattle.edge_core.specs.Device.{Takes, TakesFront};
-ghost use Rattle.frame_model.specs.declared.ending.Outcome.TheVariants.{WriteFault};
+ghost use Rattle.relay_model.specs.declared.ending.Outcome.TheVariants.{WriteFault};
 ghost use Rattle.relay_model.specs.Lines.{line_of};
 ghost use Rattle.relay_engine.specs.Tell.{told_line};
 
 use edge_core::{BrokenOff, Sink, write_all};
-use frame_model::{Outcome, Report};
 use relay_engine::Told;
-
-/// The status where all was relayed and the summary written.
-pub(crate) const CLEAN: u8 = 0;
-
-/// The status where a write or the flush of the summary failed.
-pub(crate) const WRITE_FAULT: u8 = 5;
+use relay_model::{Outcome, Report};
 
 /// Writes all of a text and flushes the sink, or tells how much of the text was written.
 pub(crate) fn write_summary<K: Sink>(sink: &mut K, text: &[u8]) -> Result<(), BrokenOff>

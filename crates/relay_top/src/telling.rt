@@ -1,19 +1,18 @@
-//! The line on faults, and the statuses of words that ask for no run.
+//! The line on faults, and the status that goes with it.
 
-ghost use Rattle.relay_model.specs.Lines.{IsWritten};
+ghost use Rattle.std.specs.Prelude.{◌≡◌};
+ghost use Rattle.edge_core.specs.Device.{SinkState, SourceState};
+ghost use Rattle.edge_core.specs.Doors.{DoorsState};
+ghost use Rattle.relay_model.specs.Answers.{cause_of_answer, status_of_answer as status_in};
+ghost use Rattle.relay_model.specs.Lines.{IsWritten, memory_line};
+ghost use Rattle.relay_model.specs.World.{world};
 ghost use Rattle.relay_engine.specs.Tell.{told_line};
+ghost use Rattle.relay_top.specs.Commands.{RefusesWord};
 
 use edge_core::Sink;
 use relay_engine::{Told, tell};
-
-/// The status of words that are no command.
-pub(crate) const USAGE: u8 = 1;
-
-/// The status where there is no memory for a relay.
-pub(crate) const OUT_OF_MEMORY: u8 = 6;
-
-/// The status where an opening was refused.
-pub(crate) const DOOR_FAULT: u8 = 8;
+use relay_model::{Answer, Status, status_of_answer};
+use relay_words::Usage;
 
 /// Writes the line, as far as no write fails: a failure of `faults` changes nothing.
 pub(crate) fn report_on<E: Sink>(faults: &mut E, told: Told)
@@ -22,4 +21,41 @@ pub(crate) fn report_on<E: Sink>(faults: &mut E, told: Told)
     let Ok(()) = tell(faults, told) else {
         return;
     };
+}
+
+/// Tells how a relay was answered, and gives its status.
+pub(crate) fn tell_answer<E: Sink>(faults: &mut E, answer: &Answer) -> Status
+    ensures status { result ≡ status_in answer.now }
+    ensures told { IsWritten (cause_of_answer answer.now) (E.state faults.old) (E.state faults.new) }
+{
+    report_on(faults, cause_of(answer));
+    status_of_answer(answer)
+}
+
+/// What is told of how a relay was answered.
+pub(crate) fn cause_of(answer: &Answer) -> Told
+    ensures { told_line result ≡ cause_of_answer answer.now }
+{
+    match answer {
+        Ok(report) => Told::Relay { report: *report },
+        Err(_) => Told::Memory,
+    }
+}
+
+/// Tells that there is no memory, and gives the status of that.
+pub(crate) fn tell_no_memory<E: Sink>(faults: &mut E) -> Status
+    ensures status { result ≡ Status.OutOfMemory }
+    ensures told { IsWritten memory_line (E.state faults.old) (E.state faults.new) }
+{
+    report_on(faults, Told::Memory);
+    Status::OutOfMemory
+}
+
+/// Tells the word that can't be read, and gives the status of that.
+pub(crate) fn tell_usage<E: Sink>(faults: &mut E, usage: Usage) -> Status
+    ensures { (source : SourceState) (doors : DoorsState) (sink : SinkState) →
+        RefusesWord usage.word result (world source doors sink (E.state faults.old)) (world source doors sink (E.state faults.new)) }
+{
+    report_on(faults, Told::Usage { word: usage.word });
+    Status::Usage
 }

@@ -1,20 +1,22 @@
 -- What holds of a batch that was read.
 use Rattle.std.proofs.Common.{◌≡◌, ◌+◌, ◌≤◌, ◌<◌, ◌^◌, ℕ, List, [], ◌∷◌, ◌++◌, length, drop, Option, Some, None, Result, Ok, Err, refl, sym, ap, ◌∙◌, subst, arith}
-use Rattle.std.specs.Prelude.{IfOk, String}
+use Rattle.std.specs.Prelude.{IfOk, IfSome, String}
 use Rattle.std.specs.declared.alloc.Global.{Global}
 use Rattle.std.specs.List.{prefix_len}
 use Rattle.std.proofs.lemmas.List.{length-append, take-append-drop}
 use Rattle.std.proofs.Math.Seq.{drop-append-add, drop-append_seam}
-use Rattle.frame_model.specs.Job.{IsInRange}
-use Rattle.frame_model.specs.declared.job.Job.{Job}
+use Rattle.frame_grammar.specs.Job.{IsInRange}
+use Rattle.frame_grammar.specs.declared.job.Job.{Job}
 use Rattle.relay_words.specs.declared.command.Command.{Command}
-use Rattle.relay_words.specs.declared.command.Command.TheVariants.{Copy, Pump, Drill, Batch}
+use Rattle.relay_words.specs.declared.command.Command.TheVariants.{Local, Threaded}
+use Rattle.relay_words.specs.declared.command.LocalCommand.TheVariants.{Copy}
+use Rattle.relay_words.specs.declared.command.ThreadedCommand.TheVariants.{Pump, Drill, Batch}
 use Rattle.relay_words.specs.declared.command.Kind.{Kind}
 use Rattle.relay_words.specs.declared.command.Kind.TheVariants as kinds
 use Rattle.relay_words.specs.Keys.{is_keyed}
 use Rattle.relay_words.specs.Names.{AreNames, misnamed}
 use Rattle.relay_words.specs.Numbers.{number_of, number_within}
-use Rattle.relay_words.specs.Words.{IfBatch, batch_behind, batch_in, batch_with, command_of, command_with, drill_from, drill_in, drill_with, frames_made, job_behind, job_in, job_of, kind_of, misplaced, names_part, relay_part, texts}
+use Rattle.relay_words.specs.Words.{IfBatch, batch_of, batch_behind, batch_in, batch_with, command_of, command_with, drill_from, drill_in, drill_with, frames_made, job_behind, job_in, job_of, kind_of, misplaced, names_part, relay_part, texts}
 use Rattle.relay_words.proofs.NamesLemmas.{are_names}
 use Rattle.relay_words.proofs.RangeLemmas.{number_range, texts_len, words_limit, words_range}
 
@@ -45,12 +47,12 @@ seam command word words relay names e =
 -- What words that can all be read where they stand give.
 record IsRead (workers : ℕ) (relay names : List (List ℕ)) (command : Command) : Type 0 where
   pub job : Job
-  pub is : command ≡ Batch workers job (2 + length relay)
+  pub is : command ≡ Threaded (Batch workers job (2 + length relay))
   pub reads : job_behind relay ≡ Ok job
   pub named : AreNames names
 
 with_job : (workers : ℕ) (relay names : List (List ℕ)) (command : Command) (r : Result Job ℕ) → AreNames names → job_behind relay ≡ r
-    → ◌≡◌ {A = Result Command ℕ} (elim r [ Ok job ↦ Ok (Batch workers job (2 + length relay)) | Err at ↦ Err (1 + at) ]) (Ok command) → IsRead workers relay names command
+    → ◌≡◌ {A = Result Command ℕ} (elim r [ Ok job ↦ Ok (Threaded (Batch workers job (2 + length relay))) | Err at ↦ Err (1 + at) ]) (Ok command) → IsRead workers relay names command
 with_job workers relay names command (Ok job) lawful q e = record { job = job; is = sym (ok_is _ _ e); reads = q; named = lawful }
 with_job workers relay names command (Err at) lawful q e = absurd cc
 
@@ -72,7 +74,7 @@ record Batched (words : List (List ℕ)) (command : Command) : Type 0 where
   pub workers : ℕ
   pub job : Job
   pub names_from : ℕ
-  pub is : command ≡ Batch workers job names_from
+  pub is : command ≡ Threaded (Batch workers job names_from)
   pub holds : IsBatch words workers job names_from
 
 of_read : (workers : ℕ) (word : List ℕ) (words : List (List ℕ)) (command : Command) → 1 ≤ workers → workers ≤ 16 → IsRead workers (relay_part words) (names_part words) command → Batched (word ∷ words) command
@@ -126,16 +128,16 @@ Follows words P = (workers : ℕ) (job : Job) (names_from : ℕ) → IsBatch wor
 no_batch : (P : ℕ → Job → ℕ → Type 0) (command other : Command) → command ≡ other → IfBatch other P → IfBatch command P
 no_batch P command other e h = subst (λ (c : Command). IfBatch c P) (sym e) h
 
-no_copy : (P : ℕ → Job → ℕ → Type 0) (r : Result Job ℕ) (command : Command) → ◌≡◌ {A = Result Command ℕ} (elim r [ Ok job ↦ Ok (Copy job) | Err at ↦ Err at ]) (Ok command) → IfBatch command P
-no_copy P (Ok job) command e = no_batch P command (Copy job) (sym (ok_is _ _ e)) tt
+no_copy : (P : ℕ → Job → ℕ → Type 0) (r : Result Job ℕ) (command : Command) → ◌≡◌ {A = Result Command ℕ} (elim r [ Ok job ↦ Ok (Local (Copy job)) | Err at ↦ Err at ]) (Ok command) → IfBatch command P
+no_copy P (Ok job) command e = no_batch P command (Local (Copy job)) (sym (ok_is _ _ e)) tt
 no_copy P (Err at) command e = absurd cc
 
-no_pump : (P : ℕ → Job → ℕ → Type 0) (r : Result Job ℕ) (command : Command) → ◌≡◌ {A = Result Command ℕ} (elim r [ Ok job ↦ Ok (Pump job) | Err at ↦ Err at ]) (Ok command) → IfBatch command P
-no_pump P (Ok job) command e = no_batch P command (Pump job) (sym (ok_is _ _ e)) tt
+no_pump : (P : ℕ → Job → ℕ → Type 0) (r : Result Job ℕ) (command : Command) → ◌≡◌ {A = Result Command ℕ} (elim r [ Ok job ↦ Ok (Threaded (Pump job)) | Err at ↦ Err at ]) (Ok command) → IfBatch command P
+no_pump P (Ok job) command e = no_batch P command (Threaded (Pump job)) (sym (ok_is _ _ e)) tt
 no_pump P (Err at) command e = absurd cc
 
 no_drill_with : (P : ℕ → Job → ℕ → Type 0) (seed count : ℕ) (r : Result Job ℕ) (command : Command) → drill_with seed count r ≡ Ok command → IfBatch command P
-no_drill_with P seed count (Ok job) command e = no_batch P command (Drill seed count job) (sym (ok_is _ _ e)) tt
+no_drill_with P seed count (Ok job) command e = no_batch P command (Threaded (Drill seed count job)) (sym (ok_is _ _ e)) tt
 no_drill_with P seed count (Err at) command e = absurd cc
 
 no_drill_from : (P : ℕ → Job → ℕ → Type 0) (seed : ℕ) (words : List (List ℕ)) (command : Command) → drill_from seed words ≡ Ok command → IfBatch command P
@@ -160,7 +162,7 @@ of_kind P kinds.Pump words command f e = no_pump P (job_in words) command e
 of_kind P kinds.Drill words command f e = no_drill P words command e
 of_kind P kinds.Batch words command f e =
     let b = batched words command e in
-    no_batch P command (Batch b.workers b.job b.names_from) b.is (f b.workers b.job b.names_from b.holds)
+    no_batch P command (Threaded (Batch b.workers b.job b.names_from)) b.is (f b.workers b.job b.names_from b.holds)
 
 abbrev pub IsWhole : List (List ℕ) → ℕ → ℕ → Type 0
 IsWhole words workers names_from = (1 ≤ workers) × (workers ≤ 16) × (names_from < length words) × AreNames (drop names_from words)
@@ -174,10 +176,11 @@ whole (word ∷ words) command e = by (kind_of word) e
     by (Some kind) e = of_kind (λ workers job names_from. IsWhole (word ∷ words) workers names_from) kind words command (λ workers job names_from b. (b.least, b.most, omega (arith, b.within), b.names word)) e
 
 weaker : (P Q : ℕ → Job → ℕ → Type 0) → ((workers : ℕ) (job : Job) (names_from : ℕ) → P workers job names_from → Q workers job names_from) → (command : Command) → IfBatch command P → IfBatch command Q
-weaker P Q f (Copy job) h = tt
-weaker P Q f (Pump job) h = tt
-weaker P Q f (Drill seed count job) h = tt
-weaker P Q f (Batch workers job names_from) h = f workers job names_from h
+weaker P Q f command h = by (batch_of command) h
+  where
+    by : (o : Option (ℕ × Job × ℕ)) → IfSome o (λ b. P b.0 b.1 b.2) → IfSome o (λ b. Q b.0 b.1 b.2)
+    by None h = tt
+    by (Some b) h = f b.0 b.1 b.2 h
 
 pub has_workers : (words : List (List ℕ)) (command : Command) → command_of words ≡ Ok command → IfBatch command (λ workers job names_from. (1 ≤ workers) × (workers ≤ 16))
 has_workers words command e = weaker (λ workers job names_from. IsWhole words workers names_from) (λ workers job names_from. (1 ≤ workers) × (workers ≤ 16)) (λ workers job names_from h. (h.0, h.1)) command (whole words command e)

@@ -3,9 +3,10 @@ use Rattle.std.proofs.Common.{◌≡◌, ◌+◌, ◌≤◌, ◌<◌, ℕ, Bool,
 use Rattle.std.specs.List.{prefix_len}
 use Rattle.frame_model.specs.declared.framing.Framing.{Framing}
 use Rattle.frame_model.specs.declared.framing.Framing.TheVariants.{Line}
-use Rattle.frame_model.specs.declared.job.Job.{Job}
+use Rattle.frame_grammar.specs.declared.job.Job.{Job}
 use Rattle.relay_words.specs.declared.command.Command.{Command}
-use Rattle.relay_words.specs.declared.command.Command.TheVariants.{Batch}
+use Rattle.relay_words.specs.declared.command.Command.TheVariants.{Threaded}
+use Rattle.relay_words.specs.declared.command.ThreadedCommand.TheVariants.{Batch}
 use Rattle.relay_words.specs.declared.keys.Keys.{Keys}
 use Rattle.relay_words.specs.Keys.{above, is_keyed, keys_among, pause_in, resume_of}
 use Rattle.relay_words.specs.Names.{misnamed}
@@ -50,15 +51,15 @@ job_is i o keys input output fi fo =
     ∙ ap (λ (f : Framing). job_with input f (keys_among keys)) (ap (λ (f : Option Framing). unwrap_or f Line) (sym fo))
 
 finished : (workers from size : ℕ) (m n : Option ℕ) (r : Result Job ℕ) (job : Job) → m ≡ None → n ≡ None → r ≡ Ok job → from ≡ size
-    → ◌≡◌ {A = Result Command ℕ} (Ok (Batch workers job from)) (elim m [
+    → ◌≡◌ {A = Result Command ℕ} (Ok (Threaded (Batch workers job from))) (elim m [
       | Some at ↦ Err (1 + at)
-      | None ↦ elim n [ Some at ↦ Err (size + at) | None ↦ elim r [ Ok job ↦ Ok (Batch workers job size) | Err at ↦ Err (1 + at) ] ]
+      | None ↦ elim n [ Some at ↦ Err (size + at) | None ↦ elim r [ Ok job ↦ Ok (Threaded (Batch workers job size)) | Err at ↦ Err (1 + at) ] ]
     ])
-finished workers from size m n r job p q e f = rw (p, q, e) (ap (λ (k : ℕ). Ok (Batch workers job k)) f)
+finished workers from size m n r job p q e f = rw (p, q, e) (ap (λ (k : ℕ). Ok (Threaded (Batch workers job k))) f)
 
 made : (workers count : ℕ) (i o name : List ℕ) (keys names : List (List ℕ)) (input output : Framing) (given : Keys) (job : Job)
     → Some input ≡ framing_of i → Some output ≡ framing_of o → KeysRead (Ok given) i o keys → None ≡ misnamed [] (name ∷ names)
-    → Ok job ≡ job_with input output given → count ≡ length keys → ◌≡◌ {A = Result Command ℕ} (Ok (Batch workers job (4 + count))) (batch_with workers (i ∷ o ∷ keys) (name ∷ names))
+    → Ok job ≡ job_with input output given → count ≡ length keys → ◌≡◌ {A = Result Command ℕ} (Ok (Threaded (Batch workers job (4 + count)))) (batch_with workers (i ∷ o ∷ keys) (name ∷ names))
 made workers count i o name keys names input output given job fi fo k n j c =
     let read = all_read (misplaced (i ∷ o ∷ []) keys) keys given k in
     finished workers (4 + count) (2 + length (i ∷ o ∷ keys)) (misplaced [] (i ∷ o ∷ keys)) (misnamed [] (name ∷ names)) (job_behind (i ∷ o ∷ keys)) job
@@ -68,7 +69,7 @@ made workers count i o name keys names input output given job fi fo k n j c =
 pub batch_made : (workers count : ℕ) (i o : List ℕ) (all rest keys names : List (List ℕ)) (input output : Framing) (given : Keys) (job : Job)
     → all ≡ i ∷ o ∷ rest → keys ≡ take (prefix_len is_keyed rest) rest → names ≡ drop (prefix_len is_keyed rest) rest
     → Some input ≡ framing_of i → Some output ≡ framing_of o → KeysRead (Ok given) i o keys → None ≡ misnamed [] names → 0 < length names
-    → Ok job ≡ job_with input output given → count ≡ length keys → ◌≡◌ {A = Result Command ℕ} (Ok (Batch workers job (4 + count))) (batch_with workers (relay_part all) (names_part all))
+    → Ok job ≡ job_with input output given → count ≡ length keys → ◌≡◌ {A = Result Command ℕ} (Ok (Threaded (Batch workers job (4 + count)))) (batch_with workers (relay_part all) (names_part all))
 batch_made workers count i o all rest keys [] input output given job a ke ne fi fo k n some j c = absurd (omega (arith, some))
 batch_made workers count i o all rest keys (name ∷ names) input output given job a ke ne fi fo k n some j c =
     rw (a, sym ke, sym ne) (made workers count i o name keys names input output given job fi fo k n j c)

@@ -3,10 +3,10 @@ use Rattle.std.proofs.Common.{◌≡◌, ◌≤◌, ◌⊎◌, inl, inr, ℕ, �
 use Rattle.std.proofs.lemmas.Bool.{and_parts, leb-true}
 use Rattle.std.specs.List.{starts_with}
 use Rattle.std.specs.Option.{option_or}
-use Rattle.frame_model.specs.Job.{IsInRange}
+use Rattle.frame_grammar.specs.Job.{IsInRange}
 use Rattle.frame_model.specs.declared.framing.Framing.{Framing}
 use Rattle.frame_model.specs.declared.framing.Framing.TheVariants.{Line}
-use Rattle.frame_model.specs.declared.job.Job.{Job}
+use Rattle.frame_grammar.specs.declared.job.Job.{Job}
 use Rattle.relay_words.specs.declared.keys.Given.{Given}
 use Rattle.relay_words.specs.declared.keys.Keys.{Keys}
 use Rattle.relay_words.specs.Keys.{above, given_among, given_by, keys_among, max_of, number_of_key, number_or, pause_in, pause_of, resume_of, seg_of, usual_resume}

@@ -1,13 +1,15 @@
 -- Which words are a command.
-use Rattle.std.specs.Prelude.{ℕ, ⊤, ◌^◌, ◌+◌, Bool, List, [], ◌∷◌, ◌++◌, length, take, drop, Option, Some, None, Result, Ok, Err, codes, is_some, map, unwrap_or, string_bytes, String, if◌then◌else◌}
+use Rattle.std.specs.Prelude.{ℕ, ◌^◌, ◌+◌, Bool, true, not, ◌||◌, List, [], ◌∷◌, ◌++◌, length, take, drop, Option, Some, None, Result, Ok, Err, codes, is_some, map, unwrap_or, IfSome, string_bytes, String, if◌then◌else◌}
 use Rattle.std.specs.declared.alloc.Global.{Global}
 use Rattle.std.specs.List.{prefix_len}
 use Rattle.std.specs.Str.{bytes_eq}
 use Rattle.frame_model.specs.declared.framing.Framing.{Framing}
 use Rattle.frame_model.specs.declared.framing.Framing.TheVariants.{Len4, Len2, Line}
-use Rattle.frame_model.specs.declared.job.Job.{Job}
+use Rattle.frame_grammar.specs.declared.job.Job.{Job}
 use Rattle.relay_words.specs.declared.command.Command.{Command}
-use Rattle.relay_words.specs.declared.command.Command.TheVariants.{Copy, Pump, Drill, Batch}
+use Rattle.relay_words.specs.declared.command.Command.TheVariants.{Local, Threaded}
+use Rattle.relay_words.specs.declared.command.LocalCommand.TheVariants.{Copy}
+use Rattle.relay_words.specs.declared.command.ThreadedCommand.TheVariants.{Pump, Drill, Batch}
 use Rattle.relay_words.specs.declared.command.Kind.{Kind}
 use Rattle.relay_words.specs.declared.command.Kind.TheVariants as kinds
 use Rattle.relay_words.specs.declared.keys.Keys.{Keys}
@@ -72,7 +74,7 @@ job_in words = elim (misplaced [] words) [ None ↦ job_behind words | Some at �
 
 -- A drill of this many frames, whose job is behind two numbers.
 abbrev pub drill_with : ℕ → ℕ → Result Job ℕ → Result Command ℕ
-drill_with seed count (Ok job) = Ok (Drill seed count job)
+drill_with seed count (Ok job) = Ok (Threaded (Drill seed count job))
 drill_with seed count (Err at) = Err (2 + at)
 
 -- A drill from this seed: the number of its frames, and then what stands behind the word of a relay.
@@ -98,7 +100,7 @@ names_part words = []
 -- A batch of so many workers, whose words of a relay and names can all be read where they stand.
 abbrev pub batch_behind : ℕ → List (List ℕ) → List (List ℕ) → Result Command ℕ
 batch_behind workers relay [] = Err (2 + length relay)
-batch_behind workers relay (name ∷ names) = elim (job_behind relay) [ Ok job ↦ Ok (Batch workers job (2 + length relay)) | Err at ↦ Err (1 + at) ]
+batch_behind workers relay (name ∷ names) = elim (job_behind relay) [ Ok job ↦ Ok (Threaded (Batch workers job (2 + length relay))) | Err at ↦ Err (1 + at) ]
 
 -- A batch of so many workers. A word that can't be read is told before a missing one, and before a resume threshold above the
 -- pause threshold.
@@ -115,8 +117,8 @@ batch_in (word ∷ words) = elim (number_within 1 16 word) [ None ↦ Err 1 | So
 
 -- The words behind the word of a command.
 abbrev pub command_with : Kind → List (List ℕ) → Result Command ℕ
-command_with kinds.Copy words = elim (job_in words) [ Ok job ↦ Ok (Copy job) | Err at ↦ Err at ]
-command_with kinds.Pump words = elim (job_in words) [ Ok job ↦ Ok (Pump job) | Err at ↦ Err at ]
+command_with kinds.Copy words = elim (job_in words) [ Ok job ↦ Ok (Local (Copy job)) | Err at ↦ Err at ]
+command_with kinds.Pump words = elim (job_in words) [ Ok job ↦ Ok (Threaded (Pump job)) | Err at ↦ Err at ]
 command_with kinds.Drill words = drill_in words
 command_with kinds.Batch words = batch_in words
 
@@ -126,23 +128,47 @@ abbrev pub command_of : List (List ℕ) → Result Command ℕ
 command_of [] = Err 0
 command_of (command ∷ words) = elim (kind_of command) [ None ↦ Err 0 | Some kind ↦ command_with kind words ]
 
+-- ---- whether a command needs more than one thread
+
+-- A first word that asks for more than one thread.
+abbrev pub is_threaded : List ℕ → Bool
+is_threaded word = bytes_eq word (codes "pump") || bytes_eq word (codes "drill") || bytes_eq word (codes "batch") || bytes_eq word (codes "serve")
+
+-- The first of these words asks for no more than one thread, or there is none.
+abbrev pub is_local : List (List ℕ) → Bool
+is_local [] = true
+is_local (command ∷ words) = not (is_threaded command)
+
+-- ---- what a command has
+
 -- The job of a command.
 abbrev pub job_of : Command → Job
-job_of (Copy job) = job
-job_of (Pump job) = job
-job_of (Drill seed count job) = job
-job_of (Batch workers job names_from) = job
+job_of (Local (Copy job)) = job
+job_of (Threaded (Pump job)) = job
+job_of (Threaded (Drill seed count job)) = job
+job_of (Threaded (Batch workers job names_from)) = job
 
 -- How many frames a command makes.
 abbrev pub frames_made : Command → ℕ
-frames_made (Copy job) = 0
-frames_made (Pump job) = 0
-frames_made (Drill seed count job) = count
-frames_made (Batch workers job names_from) = 0
+frames_made (Threaded (Drill seed count job)) = count
+frames_made command = 0
 
--- This holds of its workers, its job and the index of its first name, where the command is a batch.
+-- The job of a command that relays the source.
+abbrev pub relay_of : Command → Option Job
+relay_of (Local (Copy job)) = Some job
+relay_of (Threaded (Pump job)) = Some job
+relay_of command = None
+
+-- The seed, the number of frames and the job of a drill.
+abbrev pub drill_of : Command → Option (ℕ × ℕ × Job)
+drill_of (Threaded (Drill seed count job)) = Some (seed, count, job)
+drill_of command = None
+
+-- The workers, the job and the index of the first name of a batch.
+abbrev pub batch_of : Command → Option (ℕ × Job × ℕ)
+batch_of (Threaded (Batch workers job names_from)) = Some (workers, job, names_from)
+batch_of command = None
+
+-- This holds of them, where the command is a batch.
 abbrev pub IfBatch : Command → (ℕ → Job → ℕ → Type 0) → Type 0
-IfBatch (Copy job) P = ⊤
-IfBatch (Pump job) P = ⊤
-IfBatch (Drill seed count job) P = ⊤
-IfBatch (Batch workers job names_from) P = P workers job names_from
+IfBatch command P = IfSome (batch_of command) (λ batch. P batch.0 batch.1 batch.2)

@@ -1,10 +1,10 @@
 //! The words of a batch.
 
 ghost use Rattle.std.specs.Prelude.{◌≡◌, ◌≤◌, ◌^◌, IfOk};
-ghost use Rattle.frame_model.specs.Job.{IsInRange};
+ghost use Rattle.frame_grammar.specs.Job.{IsInRange};
 ghost use Rattle.relay_words.specs.Words.{batch_in as batch_in_of, batch_with as batch_with_of, frames_made, job_of, names_part, relay_part, texts};
 
-use crate::command::Command;
+use crate::command::{Command, ThreadedCommand};
 use crate::keys::{keys_in, number_within, split_keys};
 use crate::names::misnamed;
 use crate::words::{framing, job};
@@ -63,11 +63,11 @@ fn batch_with(workers: usize, words: &[String]) -> Result<Command, usize>
         return Err(names_from);
     }
     match job(input, output, keys) {
-        Ok(job) => Ok(Command::Batch {
+        Ok(job) => Ok(Command::Threaded(ThreadedCommand::Batch {
             workers,
             job,
             names_from,
-        }),
+        })),
         Err(word) => Err(1 + word),
     }
 }

@@ -6,11 +6,23 @@ use thiserror::Error;
 /// What a command does.
 #[derive(Clone, Copy, Debug, PartialEq, Eq)]
 pub enum Command {
-    /// Relays the source to the sink on one thread.
-    Copy {
-        job: Job,
-    },
-    /// The same on two threads.
+    /// It runs on one thread, and waits for nobody.
+    Local(LocalCommand),
+    /// It runs on more than one thread.
+    Threaded(ThreadedCommand),
+}
+
+/// What a command on one thread does.
+#[derive(Clone, Copy, Debug, PartialEq, Eq)]
+pub enum LocalCommand {
+    /// Relays the source to the sink.
+    Copy { job: Job },
+}
+
+/// What a command on more than one thread does.
+#[derive(Clone, Copy, Debug, PartialEq, Eq)]
+pub enum ThreadedCommand {
+    /// Relays the source to the sink, on two threads.
     Pump {
         job: Job,
     },

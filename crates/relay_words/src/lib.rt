@@ -10,5 +10,5 @@ mod number;
 mod words;
 
 pub use cases::{batch_cases, number_cases, word_cases};
-pub use command::{Command, Usage};
-pub use words::read_words;
+pub use command::{Command, LocalCommand, ThreadedCommand, Usage};
+pub use words::{is_local, read_local, read_words};

@@ -1,13 +1,15 @@
 //! Reading the words of a command.
 
-ghost use Rattle.std.specs.Prelude.{◌≡◌, ◌<◌, ◌≤◌, ◌+◌, ◌^◌, drop, length, IfErr, IfOk, Ok, Err};
-ghost use Rattle.frame_model.specs.Job.{IsInRange};
+ghost use Rattle.std.specs.Prelude.{◌≡◌, ◌<◌, ◌≤◌, ◌+◌, ◌^◌, drop, length, true, IfErr, IfOk, Ok, Err};
+ghost use Rattle.frame_grammar.specs.Job.{IsInRange};
 ghost use Rattle.relay_words.specs.Keys.{above, number_or as number_or_of, usual_resume as usual_resume_of};
-ghost use Rattle.relay_words.specs.Words.{command_of, drill_from as drill_from_of, drill_in as drill_in_of, frames_made, framing_of, job_in as job_in_of, job_of, job_with, kind_of, texts, IfBatch};
+ghost use Rattle.relay_words.specs.Words.{command_of, command_with, drill_from as drill_from_of, drill_in as drill_in_of, frames_made, framing_of, is_local as is_local_of, is_threaded as is_threaded_of, job_in as job_in_of, job_of, job_with, kind_of, texts, IfBatch};
 ghost use Rattle.relay_words.specs.Names.{AreNames};
+ghost use Rattle.relay_words.specs.declared.command.Command.TheVariants.{Local};
+ghost use Rattle.relay_words.specs.declared.command.Kind.TheVariants as kinds;
 
 use crate::batch::batch_in;
-use crate::command::{Command, Kind, Usage};
+use crate::command::{Command, Kind, LocalCommand, ThreadedCommand, Usage};
 use crate::keys::{Given, Keys, keys_in, number_within};
 use frame_grammar::{Framing, Job};
 
@@ -46,6 +48,50 @@ pub fn read_words(words: &[String]) -> Result<Command, Usage>
     }
 }
 
+/// Reads the words of a command on one thread, of which `is_local` is true. It takes no memory.
+pub fn read_local(words: &[String]) -> Result<LocalCommand, Usage>
+    requires { is_local_of (texts words.now) ≡ true }
+    ensures command { IfOk result (λ command. command_of (texts words.now) ≡ Ok (Local command)) }
+    ensures usage { IfErr result (λ usage. command_of (texts words.now) ≡ Err usage.word) }
+    ensures in_range { IfOk result (λ command. IsInRange (job_of (Local command))) }
+{
+    let Some((command, rest)) = words.split_first() else {
+        return Err(Usage { word: 0 });
+    };
+    match command.as_str() {
+        "copy" => read_copy(rest),
+        _ => Err(Usage { word: 0 }),
+    }
+}
+
+/// The words behind `copy`.
+fn read_copy(words: &[String]) -> Result<LocalCommand, Usage>
+    ensures command { IfOk result (λ command. command_with kinds.Copy (texts words.now) ≡ Ok (Local command)) }
+    ensures usage { IfErr result (λ usage. command_with kinds.Copy (texts words.now) ≡ Err usage.word) }
+    ensures in_range { IfOk result (λ command. IsInRange (job_of (Local command))) }
+{
+    match job_in(words) {
+        Ok(job) => Ok(LocalCommand::Copy { job }),
+        Err(word) => Err(Usage { word }),
+    }
+}
+
+/// Whether the words ask for no more than one thread: the first isn't `pump`, `drill`, `batch` or `serve`, or there is none.
+pub fn is_local(words: &[String]) -> bool
+    ensures { result ≡ is_local_of (texts words.now) }
+{
+    match words.split_first() {
+        Some((command, _)) => !is_threaded(command.as_str()),
+        None => true,
+    }
+}
+
+fn is_threaded(word: &str) -> bool
+    ensures { result ≡ is_threaded_of word.now }
+{
+    matches!(word, "pump" | "drill" | "batch" | "serve")
+}
+
 /// The command, or the index of the word that can't be read.
 fn command_in(words: &[String]) -> Result<Command, usize>
     ensures value { result ≡ command_of (texts words.now) }
@@ -60,8 +106,8 @@ fn command_in(words: &[String]) -> Result<Command, usize>
         return Err(0);
     };
     match kind {
-        Kind::Copy => Ok(Command::Copy { job: job_in(rest)? }),
-        Kind::Pump => Ok(Command::Pump { job: job_in(rest)? }),
+        Kind::Copy => Ok(Command::Local(LocalCommand::Copy { job: job_in(rest)? })),
+        Kind::Pump => Ok(Command::Threaded(ThreadedCommand::Pump { job: job_in(rest)? })),
         Kind::Drill => drill_in(rest),
         Kind::Batch => batch_in(rest),
     }
@@ -109,11 +155,11 @@ fn drill_from(seed: u32, words: &[String]) -> Result<Command, usize>
         return Err(2);
     };
     match job_in(rest) {
-        Ok(job) => Ok(Command::Drill {
+        Ok(job) => Ok(Command::Threaded(ThreadedCommand::Drill {
             seed,
             count: count as u32,
             job,
-        }),
+        })),
         Err(word) => Err(word + 2),
     }
 }

@@ -1,7 +1,7 @@
 -- Frame by frame, until one is longer than what is left.
 use Rattle.std.proofs.Common.{[], refl, ◌<◌, ◌+◌, ◌-◌, length, drop, ap, sym, ◌∙◌, arith, zero-add, ℕ, List, subst}
 use Rattle.std.proofs.lemmas.List.{drop-drop}
-use Rattle.frame_model.specs.Translation.{translation}
+use Rattle.frame_grammar.specs.Job.{translation}
 use Rattle.span_seq.specs.Sequence.{bytes}
 use Rattle.relay_engine.proofs.FrameLemmas.{passes_nothing}
 use Rattle.relay_engine.proofs.WriteLemmas.{counts_one, counts_whole}

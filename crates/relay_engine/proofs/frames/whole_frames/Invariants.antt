@@ -1,6 +1,6 @@
 -- The frames so far are whole in what was written.
 use Rattle.std.proofs.Common.{◌≡◌, ◌+◌, ◌<◌, ℕ, List, length, drop}
-use Rattle.frame_model.specs.Translation.{translation}
+use Rattle.frame_grammar.specs.Job.{translation}
 use Rattle.span_seq.specs.Sequence.{bytes}
 use Rattle.relay_engine.specs.Frames.{Passes}
 use Rattle.relay_engine.proofs.frames.whole_frames.Given as goal

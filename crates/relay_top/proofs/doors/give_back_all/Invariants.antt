@@ -1,7 +1,7 @@
 -- The devices of the names that went by came back, and their answers are kept.
 use Rattle.std.proofs.Common.{◌≡◌, ◌≤◌, map}
 use Rattle.std.specs.Prelude.{vec_capacity, vec_len}
-use Rattle.relay_top.specs.Opening.{HasComeBack, devices_of}
+use Rattle.relay_model.specs.Devices.{HasComeBack, devices_of}
 use Rattle.relay_top.proofs.doors.give_back_all.Given as goal
 
 abbrev pub invariant-loop-done : goal.invariant-loop-done

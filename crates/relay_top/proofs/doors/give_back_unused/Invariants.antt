@@ -1,6 +1,6 @@
 -- The devices of the names that went by came back.
 use Rattle.std.proofs.Common.{map}
-use Rattle.relay_top.specs.Opening.{HasComeBack, devices_of}
+use Rattle.relay_model.specs.Devices.{HasComeBack, devices_of}
 use Rattle.relay_top.proofs.doors.give_back_unused.Given as goal
 
 abbrev pub invariant-loop-task : goal.invariant-loop-task

@@ -1,6 +1,6 @@
 use Rattle.std.proofs.Common.{arith}
 use Rattle.std.specs.Prelude.{string_bytes}
-use Rattle.relay_top.specs.Opening.{devices_of}
+use Rattle.relay_model.specs.Devices.{devices_of}
 use Rattle.relay_top.proofs.OpeningLemmas.{enough_out, opened_on, refused_at_once, refused_on}
 use Rattle.relay_top.proofs.doors.open_all.Goals as goal
 

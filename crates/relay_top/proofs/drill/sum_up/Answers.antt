@@ -4,6 +4,6 @@ use Rattle.relay_top.proofs.DrillLemmas.{broken_off}
 use Rattle.relay_top.proofs.drill.sum_up.Goals as goal
 
 pub returns : goal.returns
-returns g c = λ seed job ends.
-    broken_off seed c.args.count c.args.report.now.taken c.args.report.now.written job _ _ c.in-Err.broken.written _ _ _ _
-    (c.as_bytes.ensures.value ∙ c.in-Ok.ensures) c.in-Err.ensures.front c.told_of.ensures c.report_on-in-Err.ensures ends
+returns g c = λ seed job source doors ends.
+    broken_off seed c.args.count job source doors _ _ _ _ c.args.report.now.taken c.args.report.now.written _ _ c.in-Err.broken.written
+    (c.as_bytes.ensures.value ∙ c.in-Ok.ensures) c.in-Err.ensures.front c.told_of.ensures c.report_on.ensures ends

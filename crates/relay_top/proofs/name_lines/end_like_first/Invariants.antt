@@ -1,7 +1,7 @@
--- The first name whose status isn't 0 is among those that are left.
+-- The first name whose status isn't clean is among those that are left.
 use Rattle.std.proofs.Common.{◌≡◌, length}
 use Rattle.relay_words.specs.Words.{texts}
-use Rattle.relay_top.specs.Batch.{first_failed}
+use Rattle.relay_model.specs.Answers.{first_failed}
 use Rattle.relay_top.proofs.name_lines.end_like_first.Given as goal
 
 abbrev pub invariant-loop-name : goal.invariant-loop-name

@@ -1,7 +1,7 @@
 use Rattle.std.proofs.Common.{ℕ, List, refl, ◌∙◌, subst}
 use Rattle.edge_core.specs.Device.{TakesFront}
 use Rattle.relay_model.specs.Lines.{IsWritten}
-use Rattle.relay_top.specs.Batch.{IsBrokenOff}
+use Rattle.relay_model.specs.Answers.{IsBrokenOff}
 use Rattle.relay_top.proofs.name_lines.sum_up.Goals as goal
 
 pub returns : goal.returns

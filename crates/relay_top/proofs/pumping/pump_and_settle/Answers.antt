@@ -1,5 +1,5 @@
 -- The pipe is closed, so the report is that of a run.
-use Rattle.relay_top.proofs.RelayLemmas.{the_report}
+use Rattle.relay_top.proofs.CommandLemmas.{the_report}
 use Rattle.relay_top.proofs.pumping.pump_and_settle.Goals as goal
 
 pub returns-clause-reported : goal.returns-clause-reported

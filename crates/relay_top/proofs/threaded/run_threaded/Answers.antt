@@ -1,11 +1,14 @@
--- A drill and a batch have no source.
-use Rattle.std.proofs.Common.{ℕ, List, refl, subst, sym}
+-- A pump leaves the doors as they are, and a drill and a batch have no source.
+use Rattle.std.proofs.Common.{ℕ, List, subst, sym}
 use Rattle.relay_words.specs.Names.{AreNames}
-use Rattle.relay_top.proofs.RelayLemmas.{batch_of, names_of}
+use Rattle.relay_top.proofs.CommandLemmas.{batch_named, names_of}
 use Rattle.relay_top.proofs.threaded.run_threaded.Goals as goal
 
+pub returns-in-Pump : goal.returns-in-Pump
+returns-in-Pump g c = rw c.in-Pump.is (c.pump.ensures _)
+
 pub returns-in-Drill : goal.returns-in-Drill
-returns-in-Drill g c = rw c.in-Drill.is (refl, refl, c.drill.ensures)
+returns-in-Drill g c = rw c.in-Drill.is (c.drill.ensures _ _)
 
 pub batch-requires-clause-names : goal.batch-requires-clause-names
 batch-requires-clause-names g c κs within =
@@ -13,4 +16,4 @@ batch-requires-clause-names g c κs within =
     subst (λ (xs : List (List ℕ)). AreNames xs) (sym (names_of c.args.words.now c.in-Batch.names_from)) names
 
 pub returns-in-Batch : goal.returns-in-Batch
-returns-in-Batch g c = rw c.in-Batch.is (refl, batch_of _ _ _ _ _ _ _ _ _ _ _ (names_of c.args.words.now c.in-Batch.names_from) c.batch.ensures)
+returns-in-Batch g c = rw c.in-Batch.is (batch_named _ _ _ _ _ _ _ (names_of c.args.words.now c.in-Batch.names_from) (c.batch.ensures _))
