@@ -20,6 +20,7 @@ use Rattle.relay_engine.specs.declared.fill_pipe.NoRoom.TheVariants as room
 use Rattle.relay_engine.specs.Filling.{Drafting, FillingState, DraftsSome, Drafts, RefusesRoomTo, HasTaken, Commits, Keeps, OrCommits, LosesBy, Replied, GoesOn, Meets, Settles, FilledBy, FillsOn, moves_nothing, owes}
 use Rattle.relay_engine.specs.declared.filling.Filled.{Filled}
 use Rattle.relay_engine.specs.declared.filling.Filled.TheVariants.{Moved, Paused, Full, Ended}
+use Rattle.relay_engine.proofs.LaterLemmas.{later_as, later_on, later_with}
 
 -- ---- what others do
 
@@ -45,27 +46,12 @@ or_commits others (EndReader code) is = is
 or_commits others CancelRead is = is
 or_commits others CancelFlush is = is
 
-all_or_commits : (others : Call → Type 0) (calls : List Call) → AllByRecursion others calls → AllByRecursion (OrCommits others) calls
-all_or_commits others [] all = tt
-all_or_commits others (call ∷ calls) all = (or_commits others call all.0, all_or_commits others calls all.1)
-
 pub later_or_commits : (others : Call → Type 0) (h k : List Call) → Later others h k → Later (OrCommits others) h k
-later_or_commits others h k later = record { between = later.between; all = all_or_commits others later.between later.all; is = later.is }
-
-all_append : (others : Call → Type 0) (xs ys : List Call) → AllByRecursion others xs → AllByRecursion others ys → AllByRecursion others (xs ++ ys)
-all_append others [] ys first second = second
-all_append others (x ∷ xs) ys first second = (first.0, all_append others xs ys first.1 second)
-
-pub later_on : (others : Call → Type 0) (h k m : List Call) → Later others h k → Later others k m → Later others h m
-later_on others h k m first second = record {
-  between = second.between ++ first.between;
-  all = all_append others second.between first.between second.all first.all;
-  is = second.is ∙ ap (λ (x : List Call). second.between ++ x) first.is ∙ sym (append_assoc second.between first.between h);
-}
+later_or_commits others h k later = later_as others (OrCommits others) (or_commits others) h k later
 
 -- behind others' calls a commit
 pub later_commit : (others : Call → Type 0) (h k : List Call) (runs : List Run) → Later (OrCommits others) h k → Later (OrCommits others) h (Commit runs ∷ k)
-later_commit others h k runs later = record { between = Commit runs ∷ later.between; all = (tt, later.all); is = ap (λ (x : List Call). Commit runs ∷ x) later.is }
+later_commit others h k runs later = later_with (OrCommits others) h k (Commit runs) tt later
 
 -- ---- a commit of the draft
 

@@ -1,22 +1,25 @@
+mod BehindOthersLemmas
 mod CleanLemmas
-pub mod CountLemmas
+mod CountLemmas
 mod DeviceLemmas
-mod DrainLemmas
-mod DrainedLemmas
-mod DrainingLemmas
 mod EndingLemmas
 mod FillSideLemmas
 mod FillingLemmas
 mod FrameLemmas
 mod FrontLemmas
 mod GatherLemmas
+mod LaterLemmas
+mod LendLemmas
+mod MeetLemmas
 mod PipeDrainerLemmas
 mod PipeFillerLemmas
 mod PumpEndLemmas
 mod PumpFillLemmas
 mod PumpLemmas
+mod PumpedLemmas
+mod ReadOnLemmas
 mod ReaderEndLemmas
-pub mod ReportLemmas
+mod ReportLemmas
 mod TellLemmas
 mod WriteLemmas
 mod WriterEndLemmas

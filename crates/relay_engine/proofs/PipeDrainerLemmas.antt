@@ -16,12 +16,10 @@ use Rattle.pipe_shared.specs.Turns.{Seat}
 use Rattle.pipe_shared.specs.Ends.{Reader}
 use Rattle.relay_engine.specs.Drainer.{IsDrained, end_code}
 use Rattle.relay_engine.specs.Ending.{is_sink_fault}
-use Rattle.relay_engine.specs.Sides.{Concludes, HasDrained}
-use Rattle.relay_engine.specs.Sides.{GainsBy as SideGains}
+use Rattle.relay_engine.specs.Sides.{Concludes, GainsUntil, HasDrained}
 use Rattle.relay_engine.specs.ReaderEnds.{HasRead, RefusesReader, exchanges_of, lent_len, nothing_aside}
 use Rattle.relay_engine.specs.Draining.{DrainingState, DrainsOnce, GainsBy, GainsIf, HasPassed, Idles, IsRefused, IsWithin, MovesBy, Stands, is_fault, lent_for}
-use Rattle.relay_engine.specs.PipeDrainer.{BehindStep, CompletesFor, DrainerState, EndsReader, GainsFor, IsDone, IsDraining, IsOfPipe, NotReaders, RefusesToEnd, StandsAt, StepsDrainer, end_by, owes_end, refused_step, seen_by}
-use Rattle.relay_engine.specs.PipeDrainer.{has_failed as step_has_failed}
+use Rattle.relay_engine.specs.PipeDrainer.{BehindStep, CompletesFor, DrainerState, EndsReader, GainsFor, IsDone, IsDraining, IsOfPipe, NotReaders, RefusesToEnd, StandsAt, StepsDrainer, end_by, owes_end, refused_step, seen_by, step_failed}
 use Rattle.relay_engine.specs.declared.drain_end.DrainEnd.{DrainEnd}
 use Rattle.relay_engine.specs.declared.drain_end.DrainEnd.TheVariants as ends
 use Rattle.relay_engine.specs.declared.draining.Owed.{Owed}
@@ -29,7 +27,7 @@ use Rattle.relay_engine.specs.declared.draining.Progress.{Progress}
 use Rattle.relay_engine.specs.declared.draining.Progress.TheVariants as progress
 use Rattle.relay_engine.specs.declared.pipe_drainer.DrainStep.{DrainStep}
 use Rattle.relay_engine.specs.declared.pipe_drainer.DrainStep.TheVariants.{Moved, Idle, Busy, Worn, Done}
-use Rattle.relay_engine.proofs.DrainingLemmas.{concludes_later}
+use Rattle.relay_engine.proofs.BehindOthersLemmas.{concludes_later}
 use Rattle.relay_engine.proofs.PumpLemmas.{new_drained}
 use Rattle.relay_engine.proofs.ReaderEndLemmas.{legal_behind}
 
@@ -37,8 +35,8 @@ same_some : {A : Type 0} (o : Option A) (a b : A) → o ≡ Some a → o ≡ Som
 same_some o a b first second = ap (λ x. unwrap_or x a) (sym first ∙ second)
 
 -- The core's step, from a reader's end to a reader's end.
-abbrev Drains : DrainingState → Reader → SinkState → Result Progress TryFault → DrainingState → Reader → SinkState → Type 0
-Drains d r before result d' r' after = DrainsOnce HasRead NotReaders RefusesReader exchanges_of lent_len nothing_aside d r before result d' r' after
+abbrev DrainsShared : DrainingState → Reader → SinkState → Result Progress TryFault → DrainingState → Reader → SinkState → Type 0
+DrainsShared d r before result d' r' after = DrainsOnce HasRead NotReaders RefusesReader exchanges_of lent_len nothing_aside d r before result d' r' after
 
 -- the state before it
 record Begins (d : DrainerState) (r : Reader) (text : List ℕ) : Type 0 where
@@ -64,7 +62,7 @@ goes_to d' r' now text end going at passed lends within = record {
   stands = subst (λ (o : Option DrainEnd). StandsAt o d'.draining r' text) (sym going) (subst (λ (x : List Call). HasPassed d'.draining x text) at.0 passed, lends, within);
 }
 
-pub moved : (d d' : DrainerState) (r r' : Reader) (before after : SinkState) (frames : ℕ) → d.end ≡ Some r → d.ending ≡ None → d'.end ≡ Some r' → d'.ending ≡ None → Drains d.draining r before (Ok (progress.Moved frames)) d'.draining r' after → StepsDrainer d before (Moved frames) d' after
+pub moved : (d d' : DrainerState) (r r' : Reader) (before after : SinkState) (frames : ℕ) → d.end ≡ Some r → d.ending ≡ None → d'.end ≡ Some r' → d'.ending ≡ None → DrainsShared d.draining r before (Ok (progress.Moved frames)) d'.draining r' after → StepsDrainer d before (Moved frames) d' after
 unfolding goes_to
 moved d d' r r' before after frames end going end' going' once = record {
   gain = once.gain;
@@ -80,7 +78,7 @@ moved d d' r r' before after frames end going end' going' once = record {
   job = once.job;
 }
 
-pub idled : (d d' : DrainerState) (r r' : Reader) (before after : SinkState) (n : ℕ) → d.end ≡ Some r → d.ending ≡ None → d'.end ≡ Some r' → d'.ending ≡ None → Drains d.draining r before (Ok (progress.Idle n)) d'.draining r' after → StepsDrainer d before (Idle n) d' after
+pub idled : (d d' : DrainerState) (r r' : Reader) (before after : SinkState) (n : ℕ) → d.end ≡ Some r → d.ending ≡ None → d'.end ≡ Some r' → d'.ending ≡ None → DrainsShared d.draining r before (Ok (progress.Idle n)) d'.draining r' after → StepsDrainer d before (Idle n) d' after
 unfolding goes_to
 idled d d' r r' before after n end going end' going' once = record {
   gain = once.gain;
@@ -97,7 +95,7 @@ idled d d' r r' before after n end going end' going' once = record {
   job = once.job;
 }
 
-pub was_refused : (d d' : DrainerState) (r r' : Reader) (before after : SinkState) (fault : TryFault) → d.end ≡ Some r → d.ending ≡ None → d'.end ≡ Some r' → d'.ending ≡ None → Drains d.draining r before (Err fault) d'.draining r' after → StepsDrainer d before (refused_step fault) d' after
+pub was_refused : (d d' : DrainerState) (r r' : Reader) (before after : SinkState) (fault : TryFault) → d.end ≡ Some r → d.ending ≡ None → d'.end ≡ Some r' → d'.ending ≡ None → DrainsShared d.draining r before (Err fault) d'.draining r' after → StepsDrainer d before (refused_step fault) d' after
 unfolding goes_to
 was_refused d d' r r' before after (try.Busy word) end going end' going' once = record {
   gain = once.gain;
@@ -156,7 +154,7 @@ still_owed d' dr r0 r fault end text owes more legal c =
     )
 
 -- a completion was made, or refused, by a step that had come to an end
-pub ended : (d d' : DrainerState) (dr : DrainingState) (r r' : Reader) (before after : SinkState) (end : DrainEnd) (step : DrainStep) → d.end ≡ Some r → d.ending ≡ None → Drains d.draining r before (Ok (progress.Ended end)) dr r' after → CompletesFor end dr r' step d' → StepsDrainer d before step d' after
+pub ended : (d d' : DrainerState) (dr : DrainingState) (r r' : Reader) (before after : SinkState) (end : DrainEnd) (step : DrainStep) → d.end ≡ Some r → d.ending ≡ None → DrainsShared d.draining r before (Ok (progress.Ended end)) dr r' after → CompletesFor end dr r' step d' → StepsDrainer d before step d' after
 ended d d' dr r r' before after end (Moved frames) has going once completes = absurd completes
 ended d d' dr r r' before after end (Idle n) has going once completes = absurd completes
 ended d d' dr r r' before after end (Done told) has going once completes =
@@ -264,11 +262,11 @@ gains_all None None failed a b c text gain gained more = adds failed a b c text 
 gains_all None (Some owed) failed a b c text gain gained more = stays (is_fault owed.end) failed a b c text gain gained more.0 more.1 more.2
 gains_all (Some end) owed failed a b c text gain gained more = stays (is_sink_fault end) failed a b c text gain gained more.0 more.1 more.2
 
-goes_further : (job : Job) (before : SinkState) (d d' : DrainerState) (k k' : SinkState) (step : DrainStep) → (wrote : HasWritten job before d k) → (once : StepsDrainer d k step d' k') → IsDraining d' (wrote.text ++ once.gain) → step_has_failed step d' ≡ owes_end d'.ending d'.draining.owed → HasWritten job before d' k'
+goes_further : (job : Job) (before : SinkState) (d d' : DrainerState) (k k' : SinkState) (step : DrainStep) → (wrote : HasWritten job before d k) → (once : StepsDrainer d k step d' k') → IsDraining d' (wrote.text ++ once.gain) → step_failed step d' ≡ owes_end d'.ending d'.draining.owed → HasWritten job before d' k'
 goes_further job before d d' k k' step wrote once to same = record {
   text = wrote.text ++ once.gain;
   draining = to;
-  gained = subst (λ (b : Bool). GainsIf b before (wrote.text ++ once.gain) k') same (gains_all d.ending d.draining.owed (step_has_failed step d') before k k' wrote.text once.gain wrote.gained once.gained);
+  gained = subst (λ (b : Bool). GainsIf b before (wrote.text ++ once.gain) k') same (gains_all d.ending d.draining.owed (step_failed step d') before k k' wrote.text once.gain wrote.gained once.gained);
   job_is = once.job ∙ wrote.job_is;
 }
 
@@ -284,7 +282,7 @@ wrote_on job before d d' k k' (Busy word) wrote once more = goes_further job bef
 wrote_on job before d d' k k' (Worn entries) wrote once more = goes_further job before d d' k k' (Worn entries) wrote once (once.behind wrote.text wrote.draining).0 refl
 wrote_on job before d d' k k' (Done end) wrote once more = absurd cc
 
-pub as_gains : (end : DrainEnd) (before after : SinkState) (text : List ℕ) → GainsIf (is_sink_fault end) before text after → SideGains end before text after
+pub as_gains : (end : DrainEnd) (before after : SinkState) (text : List ℕ) → GainsIf (is_sink_fault end) before text after → GainsUntil end before text after
 as_gains ends.Clean before after text gained = gained
 as_gains ends.Stopped before after text gained = gained
 as_gains (ends.Rest place) before after text gained = gained

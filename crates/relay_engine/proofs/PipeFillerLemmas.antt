@@ -15,9 +15,10 @@ use Rattle.pipe_shared.specs.declared.faults.TryFault.TheVariants as try
 use Rattle.pipe_shared.specs.Log.{calls_of}
 use Rattle.pipe_shared.specs.Turns.{Refuses}
 use Rattle.pipe_shared.specs.Ends.{Writer}
-use Rattle.relay_engine.specs.Filler.{written, end_code}
+use Rattle.relay_engine.specs.Filler.{written, fill_code}
 use Rattle.relay_engine.specs.Later.{Later}
-use Rattle.relay_engine.proofs.FillingLemmas.{later_on, later_or_commits, written_later}
+use Rattle.relay_engine.proofs.FillingLemmas.{later_or_commits, written_later}
+use Rattle.relay_engine.proofs.LaterLemmas.{later_on}
 use Rattle.relay_engine.specs.Filling.{FillingState, GoesOn, HasTaken, FillsOn, OrCommits}
 use Rattle.relay_engine.specs.WriterEnds.{HasWritten, IsOthers, RefusesWriter, drafting}
 use Rattle.relay_engine.specs.PipeFiller.{Adds, FillerState, IsFiller, MayClose, Closes, CompletesBy, EndsBy, HasEnded, Loses, StepsOn, all_of, closed_as, filler_of, filling_of, is_closed, is_done, seen_by, writer_in}
@@ -109,14 +110,14 @@ pub record ClosedOn (f : FillingState) (end end' : FillerEnd) (ending : Option F
   pub settled : (writer_in end').draft ≡ []
   pub done : is_closed end' ≡ is_done step
 
-pub closed_on : (f : FillingState) (end end' : FillerEnd) (ending : Option FillEnd) (reason : FillEnd) (result : Result (Unit {0}) TryFault) → ending ≡ Some reason → IsFiller f end ending → Closes (end_code reason) end result end'
+pub closed_on : (f : FillingState) (end end' : FillerEnd) (ending : Option FillEnd) (reason : FillEnd) (result : Result (Unit {0}) TryFault) → ending ≡ Some reason → IsFiller f end ending → Closes (fill_code reason) end result end'
     → ClosedOn f end end' ending reason (closed_as reason result)
 closed_on f (Open w) (Closed seat) ending reason (Ok done) is i c =
     let settled = if_some ending reason (w.draft ≡ []) is i.settled in
     let same : written c.found ≡ written (seen_by w) = written_later IsOthers (λ call apart. apart) (seen_by w) c.found c.later in
     let all : written (calls_of seat.seen) ++ [] ≡ all_of w =
     append-nil (written (calls_of seat.seen)) ∙ ap written c.seen ∙ same ∙ sym (append-nil (written (seen_by w))) ∙ ap (λ (x : List Run). written (seen_by w) ++ bytes_of x) (sym settled) in
-    let legal : IsLegal (EndWriter (end_code reason) ∷ c.found) = subst IsLegal c.seen c.legal in
+    let legal : IsLegal (EndWriter (fill_code reason) ∷ c.found) = subst IsLegal c.seen c.legal in
     let gone : (code : ℕ) → reason ≡ taking.Gone code → reader_end c.found ≡ Some code = λ code gone. gone_later (seen_by w) c.found code c.later legal.0 (i.gone code (is ∙ ap (λ (e : FillEnd). Some e) gone)) in
     record {
       filler = record {
@@ -182,20 +183,20 @@ closed_on f (Open w) (Open w') ending reason (Ok done) is i never = absurd never
 closed_on f (Open w) (Closed seat) ending reason (Err fault) is i never = absurd never
 closed_on f (Closed seat) end' ending reason result is i never = absurd (none result end' never)
   where
-    none : (r : Result (Unit {0}) TryFault) (e : FillerEnd) → Closes (end_code reason) (Closed seat) r e → ⊥
+    none : (r : Result (Unit {0}) TryFault) (e : FillerEnd) → Closes (fill_code reason) (Closed seat) r e → ⊥
     none (Ok done) (Open w) never = never
     none (Ok done) (Closed other) never = never
     none (Err fault) (Open w) never = never
     none (Err fault) (Closed other) never = never
 
-pub closed_with : (f : FillingState) (end end' : FillerEnd) (ending : Option FillEnd) (reason : FillEnd) (result : Result (Unit {0}) TryFault) (code : ℕ) → code ≡ end_code reason → ending ≡ Some reason → IsFiller f end ending → Closes code end result end'
+pub closed_with : (f : FillingState) (end end' : FillerEnd) (ending : Option FillEnd) (reason : FillEnd) (result : Result (Unit {0}) TryFault) (code : ℕ) → code ≡ fill_code reason → ending ≡ Some reason → IsFiller f end ending → Closes code end result end'
     → ClosedOn f end end' ending reason (closed_as reason result)
 closed_with f end end' ending reason result code coded is i c = closed_on f end end' ending reason result is i (subst (λ (k : ℕ). Closes k end result end') coded c)
 
 -- ---- a step that ends the taking, and completes or is refused
 
 added : (step : FillStep) (m k : List Call) → Adds step m k → (more : List Call) × (k ≡ more ++ m)
-added (Done end) m k (found, is, later) = (EndWriter (end_code end) ∷ later.between, is ∙ ap (λ (l : List Call). EndWriter (end_code end) ∷ l) later.is)
+added (Done end) m k (found, is, later) = (EndWriter (fill_code end) ∷ later.between, is ∙ ap (λ (l : List Call). EndWriter (fill_code end) ∷ l) later.is)
 added (Moved n) m k later = (later.between, later.is)
 added (Paused n) m k later = (later.between, later.is)
 added (Full full) m k later = (later.between, later.is)

@@ -10,7 +10,7 @@ use Rattle.relay_model.specs.Run.{IsReported, IsTaken}
 use Rattle.pipe_core.specs.History.{Call, writer_end}
 use Rattle.pipe_core.specs.Progress.{total}
 use Rattle.pipe_shared.specs.Local.{Local}
-use Rattle.relay_engine.specs.Filler.{end_code as fill_code}
+use Rattle.relay_engine.specs.Filler.{fill_code}
 use Rattle.relay_engine.specs.Filling.{FillingState}
 use Rattle.relay_engine.specs.Drainer.{end_code}
 use Rattle.relay_engine.specs.Draining.{DrainingState, GainsBy, GainsIf}
@@ -20,8 +20,8 @@ use Rattle.relay_engine.specs.declared.drain_end.DrainEnd.{DrainEnd}
 use Rattle.relay_engine.specs.declared.draining.Owed.{Owed}
 use Rattle.relay_engine.specs.declared.draining.Progress.TheVariants.{Ended}
 use Rattle.relay_engine.proofs.PipeDrainerLemmas.{adds, as_gains}
-use Rattle.relay_engine.proofs.PumpLemmas.{Drains, Pumps, TakenSoFar, behind_reader, so_far}
-use Rattle.relay_engine.proofs.ReportLemmas.{Stands, at_end_is, by_end, of_all, of_front, reported}
+use Rattle.relay_engine.proofs.PumpLemmas.{DrainsLocal, Pumps, TakenSoFar, behind_reader, so_far}
+use Rattle.relay_engine.proofs.ReportLemmas.{HoldsOfAll, at_end_is, by_end, of_all, of_front, reported}
 
 -- how the taking ended, where it didn't since the reader went
 abbrev pub taken_as : Option FillEnd → DrainEnd → FillEnd
@@ -41,14 +41,14 @@ run_taken job x None code sb s taken = record {
 run_taken job x (Some end) code sb s taken = taken
 
 -- what the reader had seen is all that was taken, whether or not more might be
-stands : (job : Job) (frames told : ℕ) (x : List ℕ) (ending : Option FillEnd) (k : List Call) (text : List ℕ) (end : DrainEnd) → ((code : ℕ) → ending ≢ Some (taking.Gone code)) → writer_end k ≡ option_map fill_code ending → total k ≡ x → Concludes job frames told k text end → Stands job x (taken_as ending end) k text end
+stands : (job : Job) (frames told : ℕ) (x : List ℕ) (ending : Option FillEnd) (k : List Call) (text : List ℕ) (end : DrainEnd) → ((code : ℕ) → ending ≢ Some (taking.Gone code)) → writer_end k ≡ option_map fill_code ending → total k ≡ x → Concludes job frames told k text end → HoldsOfAll job x (taken_as ending end) k text end
 stands job frames told x None k text end not_gone ended all concludes =
     of_front job frames told x (taken_as None end) k text end concludes (record { more = []; parts = append-nil (total k) ∙ all; going = ended })
 stands job frames told x (Some fill) k text end not_gone ended all concludes =
     let never : (code : ℕ) → fill ≢ taking.Gone code = λ code is. not_gone code (ap (λ (e : FillEnd). Some e) is) in
     of_all job frames told x fill k text end concludes (record { all = all; whole = at_end_is fill k never ended; not_gone = never })
 
-pub finished : (job : Job) (sb s : SourceState) (kb k k' : SinkState) (f : FillingState) (d d' : DrainingState) (p p' : Local) (ending : Option FillEnd) (end : DrainEnd) → job.limit ≤ 2 ^ 40 → Pumps job sb s kb k f d p ending → Drains d p k (Ended end) d' p' k'
+pub finished : (job : Job) (sb s : SourceState) (kb k k' : SinkState) (f : FillingState) (d d' : DrainingState) (p p' : Local) (ending : Option FillEnd) (end : DrainEnd) → job.limit ≤ 2 ^ 40 → Pumps job sb s kb k f d p ending → DrainsLocal d p k (Ended end) d' p' k'
     → IsReported job (record { outcome = outcome_of (is_sink_fault end) (taken_as ending end) (verdict_for end); frames = d'.drained.frames; taken = f.taken; written = d'.drained.written }) sb s kb k'
 finished job sb s kb k k' f d d' p p' ending end limit on once =
     let a = once.cause on.h on.text on.holds (so_far d on.h on.text on.fresh on.goes.drained) in

@@ -25,7 +25,7 @@ use Rattle.pipe_shared.specs.declared.faults.Full as room
 use Rattle.pipe_core.specs.Answers.{Woke}
 use Rattle.pipe_shared.specs.Options.{room_of}
 use Rattle.pipe_shared.specs.Local.{IsFull, Local, LocalAnswers}
-use Rattle.relay_engine.specs.Filler.{written, end_code}
+use Rattle.relay_engine.specs.Filler.{written, fill_code}
 use Rattle.relay_engine.specs.Filling.{FillingState, FillsOn, HasTaken, OrCommits, Replied}
 use Rattle.relay_engine.specs.WriterEnds.{IsLocalFull, local_drafting}
 use Rattle.relay_engine.specs.LocalEnds.{HoldsLocal, NoOthers, RefusesNone}
@@ -34,7 +34,7 @@ use Rattle.relay_engine.specs.Draining.{DrainingState}
 use Rattle.relay_engine.specs.Pump.{EndsBy, FillsLocal}
 use Rattle.relay_engine.specs.declared.filling.Filled.{Filled}
 use Rattle.relay_engine.specs.declared.filling.Filled.TheVariants.{Moved, Paused, Full, Ended}
-use Rattle.relay_engine.proofs.DrainLemmas.{behind_commit}
+use Rattle.relay_engine.proofs.LendLemmas.{behind_commit}
 use Rattle.relay_engine.proofs.PumpLemmas.{AtRest, Goes, Pumps, TakenSoFar, fuel, gone_says, later_same, none_left}
 
 -- ---- what the writer's calls leave to the reader
@@ -152,7 +152,7 @@ took_bytes job sb s s' kb k f f' d p middle ending filled rest once keeps given 
         limit = keeps.limit ∙ on.limit;
         job_is = on.job_is;
         wrote = on.wrote;
-        ended = c.asked.ended_is ∙ on.ended ∙ ap (λ (o : Option FillEnd). option_map end_code o) rest.none_yet;
+        ended = c.asked.ended_is ∙ on.ended ∙ ap (λ (o : Option FillEnd). option_map fill_code o) rest.none_yet;
         not_gone = λ code is. absurd cc;
         draft = keeps.draft;
         room = subst (λ (o : Options). longest_frame job.input job.max ≤ room_of o) (sym keeps.options) on.room;
@@ -167,22 +167,22 @@ took_bytes job sb s s' kb k f f' d p middle ending filled rest once keeps given 
 
 -- no byte was taken, and the writer has completed
 took_end : (job : Job) (sb s s' : SourceState) (kb k : SinkState) (f f' : FillingState) (d : DrainingState) (p middle p' : Local) (ending : Option FillEnd) (filled : Filled room.Full) (end : FillEnd) (wake : Wake) → (rest : AtRest job sb s kb k f d p ending) → (once : Once f p s filled f' middle s' rest.on.h (total rest.on.h)) → middle.pipe.bytes.draft ≡ []
-    → Keeps f p f' p' → LocalAnswers middle (EndWriter (end_code end) ∷ []) (Woke wake) p' → once.taken ≡ [] → ((code : ℕ) → end ≢ taking.Gone code) → TakenSoFar job (total rest.on.h) (Some end) sb s'
+    → Keeps f p f' p' → LocalAnswers middle (EndWriter (fill_code end) ∷ []) (Woke wake) p' → once.taken ≡ [] → ((code : ℕ) → end ≢ taking.Gone code) → TakenSoFar job (total rest.on.h) (Some end) sb s'
     → StepFilled job sb s' kb k f f' d p' (Some end)
 took_end job sb s s' kb k f f' d p middle p' ending filled end wake rest once settled keeps completes none not_gone taken =
     let on = rest.on in
     let h = on.h in
     let c = committed job sb s s' kb k f f' d p middle ending filled rest once settled in
     let all : total once.now ≡ total h = c.all ∙ ap (λ (x : List ℕ). total h ++ x) none ∙ append-nil (total h) in
-    let holds : HoldsFor p'.pipe (EndWriter (end_code end) ∷ once.now) = completes.stands once.now c.holds in
+    let holds : HoldsFor p'.pipe (EndWriter (fill_code end) ∷ once.now) = completes.stands once.now c.holds in
     let counted : f'.taken ≡ length (total once.now) = once.holds.counted ∙ sym (ap length c.all) in
     let same : f'.taken ≡ f.taken = counted ∙ ap length all ∙ sym on.counted in
     record {
       on = record {
-        h = EndWriter (end_code end) ∷ once.now;
+        h = EndWriter (fill_code end) ∷ once.now;
         text = on.text;
         holds = holds;
-        goes = goes_end d.drained once.now on.text (end_code end) c.asked.goes;
+        goes = goes_end d.drained once.now on.text (fill_code end) c.asked.goes;
         fresh = on.fresh;
         taken = subst (λ (x : List ℕ). TakenSoFar job x (Some end) sb s') (sym all) taken;
         counted = counted;

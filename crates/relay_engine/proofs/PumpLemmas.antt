@@ -28,19 +28,20 @@ use Rattle.pipe_shared.specs.declared.options.Options.{Options}
 use Rattle.pipe_shared.specs.declared.faults.TryFault.{TryFault}
 use Rattle.pipe_shared.specs.Options.{room_of}
 use Rattle.pipe_shared.specs.Local.{Local}
-use Rattle.relay_engine.specs.Filler.{written, end_code}
+use Rattle.relay_engine.specs.Filler.{written, fill_code}
 use Rattle.relay_engine.specs.Filling.{FillingState}
 use Rattle.relay_engine.specs.Later.{Later}
 use Rattle.relay_engine.specs.Drainer.{DrainState, IsDrained}
 use Rattle.relay_engine.specs.ReaderEnds.{Aside, aside_local, lent_local, no_exchanges}
 use Rattle.relay_engine.specs.LocalEnds.{HoldsLocal, NoOthers, RefusesNone}
-use Rattle.relay_engine.specs.Draining.{DrainingState, DrainsOnce, GainsBy, GoesOn, HasPassed, MovesBy, Stands, lent_for}
+use Rattle.relay_engine.specs.Draining.{DrainingState, DrainsOnce, GainsBy, HasPassed, MovesBy, OrReaders, Stands, lent_for}
 use Rattle.relay_engine.specs.declared.draining.Owed.{Owed}
 use Rattle.relay_engine.specs.declared.draining.Progress.{Progress}
 use Rattle.relay_engine.specs.declared.draining.Progress.TheVariants.{Moved, Idle}
 use Rattle.relay_engine.proofs.DeviceLemmas.{takes_nothing}
-use Rattle.relay_engine.proofs.DrainLemmas.{pending_says, ready_says}
+use Rattle.relay_engine.proofs.LendLemmas.{pending_says, ready_says}
 use Rattle.relay_engine.proofs.FrameLemmas.{passes_nothing}
+use Rattle.relay_engine.proofs.LaterLemmas.{none_is}
 
 -- A history in which nothing was dropped, and in which the reader goes on and has nothing lent.
 pub record Goes (d : DrainState) (h : List Call) (text : List ℕ) : Type 0 where
@@ -67,7 +68,7 @@ pub record Pumps (job : Job) (source_before source_now : SourceState) (sink_befo
   pub limit : f.limit ≡ job.limit
   pub job_is : d.drained.job ≡ job
   pub wrote : Takes sink_before text sink_now
-  pub ended : writer_end h ≡ option_map end_code ending
+  pub ended : writer_end h ≡ option_map fill_code ending
   pub not_gone : (code : ℕ) → ending ≢ Some (taking.Gone code)
   pub draft : p.pipe.bytes.draft ≡ []
   pub room : longest_frame job.input job.max ≤ room_of p.options
@@ -78,8 +79,8 @@ abbrev pub fuel : FillingState → Local → Option FillEnd → ℕ
 fuel f p ending = 2 * (f.limit - f.taken) + (if is_none ending then 1 else 0) + (if nat_lt 0 (p.pipe.control.committed - p.pipe.control.examined) then 1 else 0)
 
 -- A step of the drainer.
-abbrev pub Drains : DrainingState → Local → SinkState → Progress → DrainingState → Local → SinkState → Type 0
-Drains d p before progress d' p' after = DrainsOnce HoldsLocal NoOthers RefusesNone no_exchanges lent_local aside_local d p before (Ok progress) d' p' after
+abbrev pub DrainsLocal : DrainingState → Local → SinkState → Progress → DrainingState → Local → SinkState → Type 0
+DrainsLocal d p before progress d' p' after = DrainsOnce HoldsLocal NoOthers RefusesNone no_exchanges lent_local aside_local d p before (Ok progress) d' p' after
 
 -- ---- the start
 
@@ -196,7 +197,7 @@ not_one : (P : Type 0) (n : ℕ) → n ≢ 1 → (n ≡ 1) ⊎ ⊥ → P
 not_one P n other (inl is) = absurd (other is)
 not_one P n other (inr is) = absurd is
 
-by_reader : (h calls : List Call) → AllByRecursion (λ call. (seat_of call ≡ 1) ⊎ NoOthers call) calls → Same h (calls ++ h)
+by_reader : (h calls : List Call) → AllByRecursion (OrReaders NoOthers) calls → Same h (calls ++ h)
 by_reader h [] all = record { total_is = refl; written_is = refl; ended_is = refl; uncanceled = λ none. none }
 by_reader h (Read ∷ calls) all = let so = by_reader h calls all.1 in record { total_is = so.total_is; written_is = so.written_is; ended_is = so.ended_is; uncanceled = λ none. refl }
 by_reader h (Advance c e ∷ calls) all = let so = by_reader h calls all.1 in record { total_is = so.total_is; written_is = so.written_is; ended_is = so.ended_is; uncanceled = so.uncanceled }
@@ -206,19 +207,15 @@ by_reader h (EndWriter code ∷ calls) all = not_one (Same h (EndWriter code ∷
 by_reader h (CancelRead ∷ calls) all = not_one (Same h (CancelRead ∷ calls ++ h)) 2 (λ is. absurd (omega (arith, is))) all.0
 by_reader h (CancelFlush ∷ calls) all = not_one (Same h (CancelFlush ∷ calls ++ h)) 2 (λ is. absurd (omega (arith, is))) all.0
 
-pub behind_reader : (h k : List Call) → GoesOn NoOthers h k → Same h k
-behind_reader h k on = subst (λ (x : List Call). Same h x) (sym on.is) (by_reader h on.calls on.all)
-
-none_is : (o : Option ℕ) → IsNone o → o ≡ None
-none_is None none = refl
-none_is (Some at) none = absurd cc
+pub behind_reader : (h k : List Call) → Later (OrReaders NoOthers) h k → Same h k
+behind_reader h k on = subst (λ (x : List Call). Same h x) (sym on.is) (by_reader h on.between on.all)
 
 -- the history behind a step of the drainer
 record Behind (h k : List Call) (p' : Local) : Type 0 where
   same : Same h k
   attended : reader_end k ≡ None
 
-behind : (h k : List Call) (p' : Local) → GoesOn NoOthers h k → HoldsFor p'.pipe k → IsNone p'.pipe.control.gone → Behind h k p'
+behind : (h k : List Call) (p' : Local) → Later (OrReaders NoOthers) h k → HoldsFor p'.pipe k → IsNone p'.pipe.control.gone → Behind h k p'
 behind h k p' on holds gone = record {
   same = behind_reader h k on;
   attended = sym holds.marks.gone ∙ none_is p'.pipe.control.gone gone;
@@ -244,7 +241,7 @@ so_far d h text fresh drained = subst (λ (o : Option Owed). Stands d.drained o 
 gained : (d : DrainingState) (a b : SinkState) (gain : List ℕ) → d.owed ≡ None → GainsBy d.owed false a gain b → Takes a gain b
 gained d a b gain fresh gains = subst (λ (o : Option Owed). GainsBy o false a gain b) fresh gains
 
-pub moved_on : (job : Job) (sb s : SourceState) (kb k k' : SinkState) (f : FillingState) (d d' : DrainingState) (p p' : Local) (ending : Option FillEnd) (frames : ℕ) → IsNone p'.pipe.control.gone → Pumps job sb s kb k f d p ending → Drains d p k (Moved frames) d' p' k' → Pumps job sb s kb k' f d' p' ending
+pub moved_on : (job : Job) (sb s : SourceState) (kb k k' : SinkState) (f : FillingState) (d d' : DrainingState) (p p' : Local) (ending : Option FillEnd) (frames : ℕ) → IsNone p'.pipe.control.gone → Pumps job sb s kb k f d p ending → DrainsLocal d p k (Moved frames) d' p' k' → Pumps job sb s kb k' f d' p' ending
 moved_on job sb s kb k k' f d d' p p' ending frames gone on once =
     let a = once.cause on.h on.text on.holds (so_far d on.h on.text on.fresh on.goes.drained) in
     let so = behind on.h a.now p' a.on a.stands gone in
@@ -283,7 +280,7 @@ none_left a b within = ap (λ (n : ℕ). nat_lt 0 n) (sub_none a b within)
     sub_none : (a b : ℕ) → a ≤ b → a - b ≡ 0
     sub_none a b within = omega (arith, within)
 
-pub moved_less : (job : Job) (sb s : SourceState) (kb k k' : SinkState) (f : FillingState) (d d' : DrainingState) (p p' : Local) (ending : Option FillEnd) (frames : ℕ) → IsNone p'.pipe.control.gone → Pumps job sb s kb k f d p ending → Drains d p k (Moved frames) d' p' k' → fuel f p' ending < fuel f p ending
+pub moved_less : (job : Job) (sb s : SourceState) (kb k k' : SinkState) (f : FillingState) (d d' : DrainingState) (p p' : Local) (ending : Option FillEnd) (frames : ℕ) → IsNone p'.pipe.control.gone → Pumps job sb s kb k f d p ending → DrainsLocal d p k (Moved frames) d' p' k' → fuel f p' ending < fuel f p ending
 moved_less job sb s kb k k' f d d' p p' ending frames gone on once =
     let h = on.h in
     let a = once.cause h on.text on.holds (so_far d h on.text on.fresh on.goes.drained) in
@@ -303,7 +300,7 @@ pub record AtRest (job : Job) (sb s : SourceState) (kb k : SinkState) (f : Filli
   pub all_seen : examined on.h ≡ length (total on.h)
   pub waits : reply_to_read on.h ≡ read.Pending (examined on.h)
 
-pub idle : (job : Job) (sb s : SourceState) (kb k : SinkState) (f : FillingState) (d d' : DrainingState) (p p' : Local) (ending : Option FillEnd) (n : ℕ) (k' : SinkState) → IsNone p'.pipe.control.gone → Pumps job sb s kb k f d p ending → Drains d p k (Idle n) d' p' k' → AtRest job sb s kb k' f d' p' ending
+pub idle : (job : Job) (sb s : SourceState) (kb k : SinkState) (f : FillingState) (d d' : DrainingState) (p p' : Local) (ending : Option FillEnd) (n : ℕ) (k' : SinkState) → IsNone p'.pipe.control.gone → Pumps job sb s kb k f d p ending → DrainsLocal d p k (Idle n) d' p' k' → AtRest job sb s kb k' f d' p' ending
 idle job sb s kb k f d d' p p' ending n k' gone on once =
     let h = on.h in
     let a = once.cause h on.text on.holds (so_far d h on.text on.fresh on.goes.drained) in
@@ -344,12 +341,12 @@ idle job sb s kb k f d d' p p' ending n k' gone on once =
       waits = waits_again h waiting;
     }
   where
-    none_of : (o : Option FillEnd) → option_map end_code o ≡ None → o ≡ None
+    none_of : (o : Option FillEnd) → option_map fill_code o ≡ None → o ≡ None
     none_of None is = refl
     none_of (Some end) is = absurd cc
 
 pub rest_open : (job : Job) (sb s : SourceState) (kb k : SinkState) (f : FillingState) (d : DrainingState) (p : Local) (ending : Option FillEnd) → AtRest job sb s kb k f d p ending → p.pipe.control.ended ≡ None
-rest_open job sb s kb k f d p ending rest = rest.on.holds.marks.ended ∙ rest.on.ended ∙ ap (λ (o : Option FillEnd). option_map end_code o) rest.none_yet
+rest_open job sb s kb k f d p ending rest = rest.on.holds.marks.ended ∙ rest.on.ended ∙ ap (λ (o : Option FillEnd). option_map fill_code o) rest.none_yet
 
 -- a relay whose pipe rests has one step more than what a fill step leaves
 pub rest_less : (f : FillingState) (p : Local) (ending : Option FillEnd) (left : ℕ) → ending ≡ None → left + 1 ≤ 2 * (f.limit - f.taken) + 1 → left < fuel f p ending

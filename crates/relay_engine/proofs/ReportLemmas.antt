@@ -16,10 +16,10 @@ use Rattle.frame_model.proofs.TranslationLemmas.{bad_stays, grows}
 use Rattle.relay_model.specs.Run.{IsReported, IsTaken, frames_in}
 use Rattle.pipe_core.specs.History.{Call, writer_end}
 use Rattle.pipe_core.specs.Progress.{total}
-use Rattle.relay_engine.specs.Filler.{end_code as fill_code}
+use Rattle.relay_engine.specs.Filler.{fill_code}
 use Rattle.relay_engine.specs.Drainer.{is_whole, translated}
 use Rattle.relay_engine.specs.Ending.{is_sink_fault, verdict_for}
-use Rattle.relay_engine.specs.Sides.{Concludes, GainsBy, IsEndedFor}
+use Rattle.relay_engine.specs.Sides.{Concludes, GainsUntil, IsEndedFor}
 use Rattle.relay_engine.specs.declared.drain_end.DrainEnd.{DrainEnd}
 use Rattle.relay_engine.specs.declared.drain_end.DrainEnd.TheVariants as ends
 use Rattle.relay_engine.proofs.CountLemmas.{frames_of_more}
@@ -47,14 +47,14 @@ at_end_is (taking.Gone code) h not_gone ended = absurd (not_gone code refl)
 -- ---- what that says of the report
 
 -- What was concluded of what the reader had seen, of all that was taken.
-pub record Stands (job : Job) (x : List ℕ) (fill : FillEnd) (found : List Call) (text : List ℕ) (end : DrainEnd) : Type 0 where
+pub record HoldsOfAll (job : Job) (x : List ℕ) (fill : FillEnd) (found : List Call) (text : List ℕ) (end : DrainEnd) : Type 0 where
   pub front : IsPrefix text (translation job x (is_at_end fill)).text
   pub same : is_sink_fault end ≡ false → translated job found ≡ translation job x (is_at_end fill)
   pub frames : frames_in job (total found) (is_whole found) text ≡ frames_in job x (is_at_end fill) text
   pub within : length (total found) ≤ length x
   pub gone : (code : ℕ) → fill ≡ taking.Gone code → EndsEarly (outcome_of (is_sink_fault end) fill (translation job x (is_at_end fill)).verdict)
 
-pub of_all : (job : Job) (frames told : ℕ) (x : List ℕ) (fill : FillEnd) (found : List Call) (text : List ℕ) (end : DrainEnd) → Concludes job frames told found text end → SawAll x fill found → Stands job x fill found text end
+pub of_all : (job : Job) (frames told : ℕ) (x : List ℕ) (fill : FillEnd) (found : List Call) (text : List ℕ) (end : DrainEnd) → Concludes job frames told found text end → SawAll x fill found → HoldsOfAll job x fill found text end
 of_all job frames told x fill found text end concludes saw = record {
   front = subst (λ t. IsPrefix text t.text) same concludes.front;
   same = λ passed. same;
@@ -83,7 +83,7 @@ bad_or_failed ends.SinkFault ended none is = inr refl
 further : {A : Type 0} (a b c : List A) → IsPrefix a b → IsPrefix b c → IsPrefix a c
 further a b c p q = (p.0 ++ q.0, sym (append_assoc a p.0 q.0) ∙ ap (λ l. l ++ q.0) p.1 ∙ q.1)
 
-pub of_front : (job : Job) (frames told : ℕ) (x : List ℕ) (fill : FillEnd) (found : List Call) (text : List ℕ) (end : DrainEnd) → Concludes job frames told found text end → SawFront x found → Stands job x fill found text end
+pub of_front : (job : Job) (frames told : ℕ) (x : List ℕ) (fill : FillEnd) (found : List Call) (text : List ℕ) (end : DrainEnd) → Concludes job frames told found text end → SawFront x found → HoldsOfAll job x fill found text end
 of_front job frames told x fill found text end concludes saw = record {
   front = further text (translation job (total found) false).text (translation job x (is_at_end fill)).text front more;
   same = λ passed. elim cause [
@@ -125,7 +125,7 @@ pub record Gained (end : DrainEnd) (before : SinkState) (gain : List ℕ) (after
   pub fault : is_sink_fault end ≡ true → HasRisen before.faults after.faults
   pub unfailed : is_sink_fault end ≡ false → after.faults ≡ before.faults
 
-pub by_end : (end : DrainEnd) (before : SinkState) (gain : List ℕ) (after : SinkState) → GainsBy end before gain after → Gained end before gain after
+pub by_end : (end : DrainEnd) (before : SinkState) (gain : List ℕ) (after : SinkState) → GainsUntil end before gain after → Gained end before gain after
 by_end ends.Clean before gain after gains = record { gained = gains.taken; fault = λ is. absurd cc; unfailed = λ is. gains.unfailed }
 by_end ends.Stopped before gain after gains = record { gained = gains.taken; fault = λ is. absurd cc; unfailed = λ is. gains.unfailed }
 by_end (ends.Rest place) before gain after gains = record { gained = gains.taken; fault = λ is. absurd cc; unfailed = λ is. gains.unfailed }
@@ -138,7 +138,7 @@ same_outcome true fill v w same = refl
 same_outcome false fill v w same = ap (λ (x : Verdict). outcome_of false fill x) (same refl)
 
 pub reported : (job : Job) (report : Report) (x : List ℕ) (fill : FillEnd) (found : List Call) (text : List ℕ) (end : DrainEnd) (sb s : SourceState) (kb k : SinkState) → job.limit ≤ 2 ^ 40 → report.outcome ≡ outcome_of (is_sink_fault end) fill (verdict_for end) → report.taken ≡ length x
-    → IsTaken job.limit x fill sb s → Gained end kb text k → Concludes job report.frames report.written found text end → Stands job x fill found text end → IsReported job report sb s kb k
+    → IsTaken job.limit x fill sb s → Gained end kb text k → Concludes job report.frames report.written found text end → HoldsOfAll job x fill found text end → IsReported job report sb s kb k
 reported job report x fill found text end sb s kb k limit outcome taken is_taken gained concludes stands = record {
   run = record { taken = x; ending = fill; written = text; write_failed = is_sink_fault end };
   is_run = record {

@@ -1,6 +1,5 @@
 -- What a step of a drainer does on any pipe, whose writer may go on meanwhile.
 use Rattle.std.specs.Prelude.{ℕ, ◌≡◌, ◌≤◌, ◌+◌, ◌-◌, ◌⊎◌, Bool, true, false, List, [], ◌∷◌, ◌++◌, length, Option, Some, None, Result, Ok, Err}
-use Rattle.std.specs.List.{AllByRecursion}
 use Rattle.std.specs.Io.KnownBytes.{Appends}
 use Rattle.edge_core.specs.Device.{SinkState, SinkFails, Takes, HasRisen}
 use Rattle.pipe_core.specs.declared.reply.ReadReply.TheVariants as read
@@ -17,7 +16,7 @@ use Rattle.relay_engine.specs.Ending.{is_sink_fault}
 use Rattle.relay_engine.specs.Sides.{Concludes}
 use Rattle.relay_engine.specs.declared.drain_end.DrainEnd.{DrainEnd}
 use Rattle.relay_engine.specs.declared.drain_end.DrainEnd.TheVariants as ends
-use Rattle.relay_engine.specs.declared.frames.Drained.{Drained}
+use Rattle.relay_engine.specs.declared.frames.LendPassed.{LendPassed}
 use Rattle.relay_engine.specs.declared.frames.Broken.{Broken}
 use Rattle.relay_engine.specs.declared.draining.Owed.{Owed}
 use Rattle.relay_engine.specs.declared.draining.Progress.{Progress}
@@ -56,11 +55,9 @@ abbrev pub IsWithin : Option Owed → Type 0
 IsWithin None = Unit {0}
 IsWithin (Some owed) = owed.passed ≤ owed.len
 
--- A history that has gone on by calls of the reader and of others.
-pub record GoesOn (others : Call → Type 0) (h k : List Call) : Type 0 where
-  pub calls : List Call
-  pub all : AllByRecursion (λ call. (seat_of call ≡ 1) ⊎ others call) calls
-  pub is : k ≡ calls ++ h
+-- the calls of others, and the reader's
+abbrev pub OrReaders : (Call → Type 0) → Call → Type 0
+OrReaders others call = (seat_of call ≡ 1) ⊎ others call
 
 -- The read was Pending behind what others had done. Nothing else was.
 pub record Idles (others : Call → Type 0) (d : DrainingState) (h : List Call) (gain : List ℕ) (examined_told : ℕ) (d' : DrainingState) (k : List Call) : Type 0 where
@@ -109,7 +106,7 @@ module _ {P : Type 0} (at : P → List Call → Type 0) (others : Call → Type 
 
   pub record StepsTo (d : DrainingState) (h : List Call) (text gain : List ℕ) (p : P) (result : Result Progress TryFault) (d' : DrainingState) (p' : P) : Type 0 where
     pub now : List Call
-    pub on : GoesOn others h now
+    pub on : Later (OrReaders others) h now
     pub legal : IsLegal now
     pub stands : at p' now
     pub how : StepsBy d h text gain p result d' now p'
@@ -169,7 +166,7 @@ EndsOwed (Some end) before owed after = (result : DrainEnd) × (owed ≡ Some re
 -- All frames of a lend were written, and this is owed. Or a call of the sink failed.
 abbrev pub PassesLend : Option ℕ → List ℕ → DrainState → SinkState → Option Owed → DrainState → SinkState → Type 0
 PassesLend ended lent d before (Some owed) d' after =
-    (drained : Drained) × (written : SinkState) × Drains d.job lent (is_success ended) before drained written
+    (drained : LendPassed) × (written : SinkState) × Drains d.job lent (is_success ended) before drained written
     × (d' ≡ added d drained.passed drained.frames drained.written (length lent - drained.passed))
     × (owed.passed ≡ drained.passed) × (owed.len ≡ length lent) × (owed.frames ≡ drained.frames)
     × EndsOwed (end_at drained.stop ended d'.place) written owed.end after

@@ -11,8 +11,8 @@ written (Commit runs ∷ h) = written h ++ bytes_of runs
 written (call ∷ h) = written h
 
 -- the code with which the writer completes
-abbrev pub end_code : FillEnd → ℕ
-end_code taking.End = 0
-end_code taking.Fault = 4
-end_code taking.Long = 7
-end_code (taking.Gone code) = code
+abbrev pub fill_code : FillEnd → ℕ
+fill_code taking.End = 0
+fill_code taking.Fault = 4
+fill_code taking.Long = 7
+fill_code (taking.Gone code) = code

@@ -12,7 +12,7 @@ use Rattle.frame_grammar.specs.Job.{translation}
 use Rattle.relay_model.specs.Run.{payloads_of}
 use Rattle.relay_engine.specs.declared.frames.Stop.{Stop}
 use Rattle.relay_engine.specs.declared.frames.Stop.TheVariants as stops
-use Rattle.relay_engine.specs.declared.frames.Drained.{Drained}
+use Rattle.relay_engine.specs.declared.frames.LendPassed.{LendPassed}
 use Rattle.relay_engine.specs.declared.frames.Broken.{Broken}
 
 -- A count of bytes, as 64 bits tell it: from their greatest number on it stays there.
@@ -53,7 +53,7 @@ pub record IsFirst (job : Job) (bytes : List ℕ) (at_end : Bool) (payload : Lis
   pub some : 0 < len
 
 -- All that can be passed on was, up to where it stopped.
-pub record Drains (job : Job) (bytes : List ℕ) (at_end : Bool) (before : SinkState) (drained : Drained) (after : SinkState) : Type 0 where
+pub record Drains (job : Job) (bytes : List ℕ) (at_end : Bool) (before : SinkState) (drained : LendPassed) (after : SinkState) : Type 0 where
   pub text : List ℕ
   pub passes : Passes job bytes at_end drained.passed drained.frames text
   pub taken : Takes before text after

@@ -13,6 +13,7 @@ pub mod Passing
 pub mod Ending
 pub mod Pump
 pub mod Sides
+pub mod Pumped
 pub mod Filling
 pub mod PipeFiller
 pub mod Draining

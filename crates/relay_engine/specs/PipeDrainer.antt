@@ -79,11 +79,11 @@ owes_end None owed = owes_fault owed
 owes_end (Some end) owed = is_sink_fault end
 
 -- a call of the sink has failed
-abbrev pub has_failed : DrainStep → DrainerState → Bool
-has_failed (Done end) d = is_sink_fault end
-has_failed (Busy word) d = owes_end d.ending d.draining.owed
-has_failed (Worn entries) d = owes_end d.ending d.draining.owed
-has_failed step d = false
+abbrev pub step_failed : DrainStep → DrainerState → Bool
+step_failed (Done end) d = is_sink_fault end
+step_failed (Busy word) d = owes_end d.ending d.draining.owed
+step_failed (Worn entries) d = owes_end d.ending d.draining.owed
+step_failed step d = false
 
 -- What a step put into the sink. One that makes what was owed makes no call of it, and whether one has failed stays.
 abbrev pub GainsFor : Option DrainEnd → Option Owed → Bool → SinkState → List ℕ → SinkState → Type 0
@@ -93,7 +93,7 @@ GainsFor (Some end) owed failed before gain after = (gain ≡ []) × (after ≡ 
 -- One step. Its text is that of the steps before with what this one put into the sink.
 pub record StepsDrainer (d : DrainerState) (before : SinkState) (step : DrainStep) (d' : DrainerState) (after : SinkState) : Type 0 where
   pub gain : List ℕ
-  pub gained : GainsFor d.ending d.draining.owed (has_failed step d') before gain after
+  pub gained : GainsFor d.ending d.draining.owed (step_failed step d') before gain after
   pub behind : (text : List ℕ) → (from : IsDraining d text) → BehindStep step d from.reader gain d' (text ++ gain)
   pub job : d'.draining.drained.job ≡ d.draining.drained.job
 

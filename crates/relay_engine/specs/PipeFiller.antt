@@ -17,7 +17,7 @@ use Rattle.pipe_shared.specs.Ends.{Writer}
 use Rattle.pipe_shared.specs.Granting.{FindsFull}
 use Rattle.pipe_shared.specs.Attempts.{completed}
 use Rattle.relay_engine.specs.Ends.{GivesOneMore}
-use Rattle.relay_engine.specs.Filler.{written, end_code}
+use Rattle.relay_engine.specs.Filler.{written, fill_code}
 use Rattle.relay_engine.specs.Later.{Later, HearsLater}
 use Rattle.relay_engine.specs.Filling.{FillingState, GoesOn, HasTaken, Meets, OrCommits, Replied}
 use Rattle.relay_engine.specs.WriterEnds.{HasWritten, IsOthers, drafting}
@@ -83,10 +83,10 @@ Loses limit bytes (Some end) ending before taken after = (ending ≡ Some end) �
 -- The writer has completed for this end, behind commits alone, by which all that was taken is committed.
 pub record HasEnded (end : FillEnd) (w : Writer) : Type 0 where
   pub found : List Call
-  pub seen : seen_by w ≡ EndWriter (end_code end) ∷ found
+  pub seen : seen_by w ≡ EndWriter (fill_code end) ∷ found
   pub gone : (code : ℕ) → end ≡ taking.Gone code → reader_end found ≡ Some code
   pub commits : List (List Run)
-  pub own : w.seat.own ≡ map (λ runs. Commit runs) commits ++ EndWriter (end_code end) ∷ []
+  pub own : w.seat.own ≡ map (λ runs. Commit runs) commits ++ EndWriter (fill_code end) ∷ []
   pub bytes : flat_map bytes_of commits ≡ all_of w
 
 -- why a step answered so
@@ -106,7 +106,7 @@ is_done step = false
 
 -- What a step has added to what its end had seen: commits among others' calls, and at the last step the completion behind them.
 abbrev pub Adds : FillStep → List Call → List Call → Type 0
-Adds (Done end) h k = (found : List Call) × (k ≡ EndWriter (end_code end) ∷ found) × Later (OrCommits IsOthers) h found
+Adds (Done end) h k = (found : List Call) × (k ≡ EndWriter (fill_code end) ∷ found) × Later (OrCommits IsOthers) h found
 Adds step h k = Later (OrCommits IsOthers) h k
 
 -- whether a commit is owed, where a step says so

@@ -10,7 +10,7 @@ use Rattle.pipe_core.specs.Answers.{Woke}
 use Rattle.pipe_shared.specs.declared.options.Options.{Options}
 use Rattle.pipe_shared.specs.declared.faults.Full.{Full}
 use Rattle.pipe_shared.specs.Local.{Local, LocalAnswers}
-use Rattle.relay_engine.specs.Filler.{end_code}
+use Rattle.relay_engine.specs.Filler.{fill_code}
 use Rattle.relay_engine.specs.Filling.{FillingState, FillsOn}
 use Rattle.relay_engine.specs.WriterEnds.{IsLocalFull, local_drafting}
 use Rattle.relay_engine.specs.LocalEnds.{HoldsLocal, NoOthers, RefusesNone}
@@ -23,7 +23,7 @@ options_for job = record { segment = job.seg; segments = segments job; pause = j
 
 -- The writer has completed where the taking has ended.
 abbrev pub EndsBy : Filled Full → Local → Option FillEnd → Local → Type 0
-EndsBy (Ended end) middle result p' = (result ≡ Some end) × ((wake : Wake) × LocalAnswers middle (EndWriter (end_code end) ∷ []) (Woke wake) p')
+EndsBy (Ended end) middle result p' = (result ≡ Some end) × ((wake : Wake) × LocalAnswers middle (EndWriter (fill_code end) ∷ []) (Woke wake) p')
 EndsBy filled middle result p' = (result ≡ None) × (p' ≡ middle)
 
 -- One step of the filler, by which no call is refused, and the writer's completion, where the taking has ended.

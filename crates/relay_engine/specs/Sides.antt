@@ -12,7 +12,7 @@ use Rattle.pipe_core.specs.Progress.{total}
 use Rattle.pipe_shared.specs.Log.{calls_of}
 use Rattle.pipe_shared.specs.Turns.{Seat}
 use Rattle.relay_engine.specs.Frames.{capped}
-use Rattle.relay_engine.specs.Filler.{end_code as fill_code}
+use Rattle.relay_engine.specs.Filler.{fill_code}
 use Rattle.relay_engine.specs.Drainer.{end_code, is_whole, translated}
 use Rattle.relay_engine.specs.Ending.{is_sink_fault, verdict_for}
 use Rattle.relay_engine.specs.declared.drain_end.DrainEnd.{DrainEnd}
@@ -50,14 +50,14 @@ pub record Concludes (job : Job) (frames written : ℕ) (h : List Call) (text : 
   pub bounded : length text ≤ 5 * length (total h)
 
 -- A text came to a sink, of which a write or a flush failed where the end says so.
-abbrev pub GainsBy : DrainEnd → SinkState → List ℕ → SinkState → Type 0
-GainsBy ends.SinkFault before gain after = Appends before.written after.written gain × HasRisen before.faults after.faults
-GainsBy end before gain after = Takes before gain after
+abbrev pub GainsUntil : DrainEnd → SinkState → List ℕ → SinkState → Type 0
+GainsUntil ends.SinkFault before gain after = Appends before.written after.written gain × HasRisen before.faults after.faults
+GainsUntil end before gain after = Takes before gain after
 
 -- A reader's seat has completed with the code of its drainer's end, which is told of all that it had seen before.
 pub record HasDrained (job : Job) (end : DrainEnd) (seat : Seat) (frames written : ℕ) (before after : SinkState) : Type 0 where
   pub text : List ℕ
-  pub gained : GainsBy end before text after
+  pub gained : GainsUntil end before text after
   pub found : List Call
   pub seen : calls_of seat.seen ≡ EndReader (end_code end) ∷ found
   pub concludes : Concludes job frames written found text end

@@ -40,8 +40,8 @@ FindsNoRoom pipe full old new = FindsFull pipe.name.options 1 full old new
 
 -- ---- a pipe for one thread, whose writer goes on: it drafts in one segment
 
-abbrev pub GoesOn : Unit {0} → Local → Type 0
-GoesOn pipe p = IsNone p.pipe.control.ended
+abbrev pub IsUnended : Unit {0} → Local → Type 0
+IsUnended pipe p = IsNone p.pipe.control.ended
 
 abbrev pub local_drafting : Local → Drafting
 local_drafting p = record {

@@ -19,7 +19,8 @@ use pipe_core::ReadReply;
 use pipe_shared::TryFault;
 use std::marker::Model;
 
-/// What a step of a drainer came to.
+/// What a step of the part that knows no pipe came to, where no call was refused. What a whole step of a `Drainer` did is a
+/// `DrainStep`: that tells refusals too, and the end only once the reader has completed.
 #[derive(Clone, Copy, Debug, PartialEq, Eq)]
 pub enum Progress {
     /// It wrote so many frames, maybe none, and passed over them.

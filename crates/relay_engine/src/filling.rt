@@ -11,7 +11,8 @@ use pipe_shared::TryFault;
 use relay_model::FillEnd;
 use std::marker::Model;
 
-/// What a step did that was not refused.
+/// What a step of the part that knows no pipe did, where no call was refused. What a whole step of a `Filler` did is a
+/// `FillStep`: that tells refusals too, and the end only once the writer has completed.
 #[derive(Clone, Copy, Debug, PartialEq, Eq)]
 pub enum Filled<F> {
     /// So many bytes were committed, at least one.

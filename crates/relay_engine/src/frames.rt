@@ -29,7 +29,7 @@ pub enum Stop {
 
 /// How many bytes were passed over, in how many frames, in how many bytes these were written, and why no more were.
 #[derive(Clone, Copy)]
-pub struct Drained {
+pub struct LendPassed {
     pub passed: u64,
     pub frames: u64,
     pub written: u64,
@@ -51,7 +51,7 @@ pub fn write_lent<C: Spans, K: Sink>(
     at_end: bool,
     gathering: &mut Gathering,
     sink: &mut K,
-) -> Result<Drained, Broken>
+) -> Result<LendPassed, Broken>
     requires small { length (bytes lent.now) ≤ 2 ^ 62 }
     requires within { known ≤ length (bytes lent.now) }
     requires searched { job.now.input ≡ Framing.Line → IsNone (position is_line_feed (take known (bytes lent.now))) }
@@ -81,7 +81,7 @@ pub fn write_frames<C: Spans, K: Sink>(
     at_end: bool,
     gathering: &mut Gathering,
     sink: &mut K,
-) -> Result<Drained, Failed>
+) -> Result<LendPassed, Failed>
     requires small { length (bytes lent.now) ≤ 2 ^ 62 }
     requires within { known ≤ length (bytes lent.now) }
     requires searched { job.now.input ≡ Framing.Line → IsNone (position is_line_feed (take known (bytes lent.now))) }
@@ -112,7 +112,7 @@ pub fn write_frames<C: Spans, K: Sink>(
             }
             Err(stop) => {
                 gathering.write_out(sink)?;
-                return Ok(Drained {
+                return Ok(LendPassed {
                     passed,
                     frames,
                     written,

@@ -25,7 +25,9 @@ mod shared_writer;
 pub use drain_end::DrainEnd;
 pub use ending::outcome_of;
 pub use fill_side::fill;
-pub use laws::{drained_at_first, drained_behind_others, drained_is_a_front};
+pub use laws::{
+    drained_at_first, drained_behind_others, drained_is_a_front, settled_pump_is_reported,
+};
 pub use lines::{Told, tell};
 pub use pipe_drainer::{DrainStep, Drainer, drain};
 pub use pipe_filler::{FillStep, Filler};

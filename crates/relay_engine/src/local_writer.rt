@@ -12,10 +12,10 @@ impl FillPipe for LocalPipe {
 
     type Full = Full;
 
-    ghost use Rattle.relay_engine.specs.WriterEnds.{GoesOn, IsLocalFull, local_drafting, local_options};
+    ghost use Rattle.relay_engine.specs.WriterEnds.{IsLocalFull, IsUnended, local_drafting, local_options};
     ghost use Rattle.relay_engine.specs.LocalEnds.{HoldsLocal, NoOthers, RefusesNone};
 
-    ghost may_call = { GoesOn };
+    ghost may_call = { IsUnended };
 
     ghost at = { HoldsLocal };
 

@@ -2,7 +2,7 @@
 
 ghost use Rattle.std.specs.Prelude.{◌≡◌, ◌≤◌, ◌^◌, [], false, true, length, None, Some, IfOk};
 ghost use Rattle.turn_cell.specs.Seat.{IsIdle};
-ghost use Rattle.relay_engine.specs.Filler.{end_code};
+ghost use Rattle.relay_engine.specs.Filler.{fill_code};
 ghost use Rattle.relay_engine.specs.Filling.{FillsOn, OrCommits, owes};
 ghost use Rattle.relay_engine.specs.Later.{Later};
 ghost use Rattle.relay_engine.specs.WriterEnds.{FindsNoRoom, HasWritten, IsOthers, RefusesWriter, drafting};
@@ -274,7 +274,7 @@ fn step_of(reason: FillEnd, closed: Result<(), TryFault>) -> FillStep
 
 /// The code with which the writer completes where the taking ended so.
 pub(crate) fn code_of(end: FillEnd) -> u32
-    ensures { result ≡ end_code end }
+    ensures { result ≡ fill_code end }
 {
     match end {
         FillEnd::End => ENDED,

@@ -1,3 +1,1 @@
 mod BatchLemmas
-mod MeetLemmas
-mod PumpedLemmas

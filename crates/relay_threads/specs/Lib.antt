@@ -1,1 +1,1 @@
-pub mod Pumped
+pub mod NewEnds

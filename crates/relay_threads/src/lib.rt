@@ -5,11 +5,10 @@
 #[cfg(test)]
 mod batch_tests;
 mod batching;
-mod laws;
 mod pumping;
 #[cfg(test)]
 mod tests;
 
 pub use batching::{Finished, Task, batch};
-pub use laws::settled_pump_is_reported;
 pub use pumping::{Pumped, pump, settle};
+pub use relay_engine::settled_pump_is_reported;

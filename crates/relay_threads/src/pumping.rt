@@ -8,7 +8,8 @@ ghost use Rattle.pipe_shared.specs.Made.{ClosesPipe};
 ghost use Rattle.pipe_shared.specs.Options.{first_bad};
 ghost use Rattle.relay_engine.specs.Sides.{HasDrained, HasFilled};
 ghost use Rattle.relay_engine.specs.Pump.{options_for};
-ghost use Rattle.relay_threads.specs.Pumped.{HasPumped, new_reader, new_writer};
+ghost use Rattle.relay_engine.specs.Pumped.{HasPumped};
+ghost use Rattle.relay_threads.specs.NewEnds.{new_reader, new_writer};
 
 use edge_core::{Sink, Source};
 use frame_grammar::Job;
@@ -31,10 +32,10 @@ pub struct Pumped {
 }
 
 /// How a filler ended, its writer, and how many bytes it took.
-type Filled = (FillEnd, WriterDone, u64);
+type FilledSide = (FillEnd, WriterDone, u64);
 
 /// How a drainer ended, its reader, and how many frames and bytes it wrote.
-type Drained = (DrainEnd, ReaderDone, u64, u64);
+type DrainedSide = (DrainEnd, ReaderDone, u64, u64);
 
 /// Relays a source to a sink on two threads, and hands back how that ended, with the pipe for `settle` to close. This thread
 /// takes bytes from the source into the pipe, and a new one writes the frames of what the pipe lends to the sink: the two
@@ -130,7 +131,7 @@ fn run_both<R: Wait + Threads + Sync, S: Source + Send, K: Sink + Send>(
     source: &mut S,
     sink: &mut K,
     job: &Job,
-) -> (Filled, Drained)
+) -> (FilledSide, DrainedSide)
     requires writer { writer ≡ new_writer pipe.now }
     requires reader { reader ≡ new_reader pipe.now }
     requires limit { job.now.limit ≤ 2 ^ 40 }
@@ -156,7 +157,7 @@ fn fill_pipe<R: Wait, S: Source>(
     writer: &mut Option<WriterEnd>,
     source: &mut S,
     job: &Job,
-) -> Filled
+) -> FilledSide
     requires new { writer.old ≡ Some (new_writer pipe.now) }
     requires limit { job.now.limit ≤ 2 ^ 40 }
     ensures pipe { IsIdle pipe.now result.1 }
@@ -176,7 +177,7 @@ fn drain_pipe<R: Wait, K: Sink>(
     reader: &mut Option<ReaderEnd>,
     sink: &mut K,
     job: &Job,
-) -> Drained
+) -> DrainedSide
     requires new { reader.old ≡ Some (new_reader pipe.now) }
     ensures pipe { IsIdle pipe.now result.1 }
     ensures drained { HasDrained job.now result.0 result.1 result.2 result.3 (K.state sink.old) (K.state sink.new) }

@@ -1,6 +1,6 @@
 use Rattle.std.proofs.Common.{ap, Some, None}
 use Rattle.relay_engine.specs.Draining.{DrainingState}
-use Rattle.relay_engine.proofs.DrainingLemmas.{goes_on, is_at_end, is_refused}
+use Rattle.relay_engine.proofs.BehindOthersLemmas.{goes_on, is_at_end, is_refused}
 use Rattle.relay_engine.proofs.draining.Draining.advance.Goals as goal
 use Rattle.relay_engine.proofs.draining.Draining.advance.Goals.{in-Some, in-None}
 

@@ -1,5 +1,5 @@
 use Rattle.span_seq.specs.Sequence.{bytes}
-use Rattle.relay_engine.proofs.DrainLemmas.{lent_small}
+use Rattle.relay_engine.proofs.LendLemmas.{lent_small}
 use Rattle.relay_engine.proofs.draining.Draining.pass_on.Goals as goal
 
 pub write_lent-requires-clause-small : goal.write_lent-requires-clause-small

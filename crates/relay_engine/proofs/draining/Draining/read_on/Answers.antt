@@ -1,9 +1,9 @@
 use Rattle.std.proofs.Common.{ap, ◌∙◌, ◌∷◌}
 use Rattle.pipe_core.specs.History.{Read}
 use Rattle.relay_engine.specs.Ends.{lent_by}
-use Rattle.relay_engine.proofs.DrainLemmas.{known_lend}
-use Rattle.relay_engine.proofs.DrainingLemmas.{drained_later}
-use Rattle.relay_engine.proofs.DrainedLemmas.{as_reply, read_broken, read_passed, read_pending, read_refused}
+use Rattle.relay_engine.proofs.LendLemmas.{known_lend}
+use Rattle.relay_engine.proofs.BehindOthersLemmas.{drained_later}
+use Rattle.relay_engine.proofs.ReadOnLemmas.{as_reply, read_broken, read_passed, read_pending, read_refused}
 use Rattle.relay_engine.proofs.draining.Draining.read_on.Goals as goal
 
 pub pass_on-requires-clause-known : goal.pass_on-requires-clause-known

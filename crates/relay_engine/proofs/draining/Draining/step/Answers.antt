@@ -1,5 +1,5 @@
 use Rattle.std.proofs.Common.{ap, sym, ◌∙◌}
-use Rattle.relay_engine.proofs.DrainedLemmas.{owed_step}
+use Rattle.relay_engine.proofs.ReadOnLemmas.{owed_step}
 use Rattle.relay_engine.proofs.draining.Draining.step.Goals as goal
 
 pub returns-in-Some-clause-step : goal.returns-in-Some-clause-step

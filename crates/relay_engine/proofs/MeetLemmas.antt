@@ -13,10 +13,7 @@ use Rattle.pipe_core.proofs.OrderLemmas.{total_commit}
 use Rattle.pipe_shared.specs.Log.{calls_of}
 use Rattle.pipe_shared.proofs.StateLemmas.{calls_of-append}
 use Rattle.relay_engine.specs.Filler.{written}
-
-pub no_code : (o : Option ℕ) → IsNone o → o ≡ None
-no_code None is = refl
-no_code (Some code) is = absurd cc
+use Rattle.relay_engine.proofs.LaterLemmas.{none_is}
 
 -- ---- what the commits of calls are
 
@@ -134,9 +131,9 @@ stays_ended (CancelFlush ∷ more) h code legal ended = let rest = stays_ended m
 
 -- ---- both ends
 
-pub legal_behind : (more h : List Call) → IsLegal (more ++ h) → IsLegal h
-legal_behind [] h legal = legal
-legal_behind (call ∷ more) h legal = legal_behind more h legal.0
+pub legal_before : (more h : List Call) → IsLegal (more ++ h) → IsLegal h
+legal_before [] h legal = legal
+legal_before (call ∷ more) h legal = legal_before more h legal.0
 
 reader_end_behind : (more h : List Call) → reader_end (more ++ h) ≡ None → reader_end h ≡ None
 reader_end_behind [] h none = none
@@ -159,7 +156,7 @@ pub one_is_first : (more behind found h : List Call) (rc wc code : ℕ) → IsLe
     → more ++ EndReader rc ∷ found ≡ behind ++ EndWriter wc ∷ h → reader_end h ≡ None
 one_is_first [] [] found h rc wc code legal ended same = let heads = head_is _ _ _ _ same in absurd cc
 one_is_first [] (call ∷ behind) found h rc wc code legal ended same =
-    let left : reader_end (behind ++ EndWriter wc ∷ h) ≡ None = ap reader_end (sym (tail_is _ _ _ _ same)) ∙ no_code (reader_end found) legal.1 in
+    let left : reader_end (behind ++ EndWriter wc ∷ h) ≡ None = ap reader_end (sym (tail_is _ _ _ _ same)) ∙ none_is (reader_end found) legal.1 in
     reader_end_behind behind (EndWriter wc ∷ h) left
 one_is_first (call ∷ more) [] found h rc wc code legal ended same =
     let heads : call ≡ EndWriter wc = head_is _ _ _ _ same in

@@ -1,14 +1,11 @@
--- What a relay on two threads has done, once both its sides have ended.
-use Rattle.std.specs.Prelude.{◌≡◌, [], None}
+-- What both sides of a relay over a pipe for two threads have done, once they have ended.
+use Rattle.std.specs.Prelude.{◌≡◌}
 use Rattle.edge_core.specs.Device.{SourceState, SinkState}
 use Rattle.frame_grammar.specs.declared.job.Job.{Job}
 use Rattle.relay_model.specs.declared.ending.FillEnd.{FillEnd}
 use Rattle.relay_model.specs.declared.ending.Report.{Report}
 use Rattle.relay_model.specs.Ending.{outcome_of}
-use Rattle.turn_cell.specs.Seat.{CellState, new_seat}
-use Rattle.pipe_shared.specs.Name.{Name}
 use Rattle.pipe_shared.specs.Turns.{Seat}
-use Rattle.pipe_shared.specs.Ends.{Reader, Writer}
 use Rattle.relay_engine.specs.declared.drain_end.DrainEnd.{DrainEnd}
 use Rattle.relay_engine.specs.Ending.{is_sink_fault, verdict_for}
 use Rattle.relay_engine.specs.Sides.{HasFilled, HasDrained}
@@ -21,10 +18,3 @@ pub record HasPumped (job : Job) (report : Report) (writer reader : Seat) (sourc
   pub filled : HasFilled job.limit filling writer report.taken source_before source_after
   pub drained : HasDrained job draining reader report.frames report.written sink_before sink_after
   pub outcome : report.outcome ≡ outcome_of (is_sink_fault draining) filling (verdict_for draining)
-
--- the writer and the reader of a new pipe
-abbrev pub new_writer : CellState Name → Writer
-new_writer cell = record { seat = new_seat cell 0; draft = []; free = [] }
-
-abbrev pub new_reader : CellState Name → Reader
-new_reader cell = record { seat = new_seat cell 1; lent = None }

@@ -25,18 +25,19 @@ use Rattle.relay_engine.specs.Drainer.{DrainState, IsDrained, is_success}
 use Rattle.relay_engine.specs.Passing.{added, end_at}
 use Rattle.relay_engine.specs.Ending.{is_sink_fault, verdict_for}
 use Rattle.relay_engine.specs.Sides.{Concludes, IsEndedFor}
-use Rattle.relay_engine.specs.Draining.{AdvancesBy, AdvancesTo, DrainingState, DrainsOnce, EndsOwed, GainsBy, GainsIf, GoesOn, HasPassed, IfMore, IsAdvanced, IsWithin, MovesBy, Owes, PassesLend, Stands, StandsBehind, StepsBy, has_failed, is_fault, lent_for, owes_fault}
+use Rattle.relay_engine.specs.Draining.{AdvancesBy, AdvancesTo, DrainingState, DrainsOnce, EndsOwed, GainsBy, GainsIf, HasPassed, IfMore, IsAdvanced, IsWithin, MovesBy, OrReaders, Owes, PassesLend, Stands, StandsBehind, StepsBy, has_failed, is_fault, lent_for, owes_fault}
 use Rattle.relay_engine.specs.declared.frames.Stop.{Stop}
 use Rattle.relay_engine.specs.declared.frames.Stop.TheVariants as stops
-use Rattle.relay_engine.specs.declared.frames.Drained.{Drained}
+use Rattle.relay_engine.specs.declared.frames.LendPassed.{LendPassed}
 use Rattle.relay_engine.specs.declared.drain_end.DrainEnd.{DrainEnd}
 use Rattle.relay_engine.specs.declared.drain_end.DrainEnd.TheVariants as ends
 use Rattle.relay_engine.specs.declared.draining.Owed.{Owed}
 use Rattle.relay_engine.specs.declared.draining.Progress.{Progress}
 use Rattle.relay_engine.specs.declared.draining.Progress.TheVariants.{Moved, Idle, Ended}
 use Rattle.relay_engine.proofs.DeviceLemmas.{appends_kept, takes_nothing}
-use Rattle.relay_engine.proofs.DrainLemmas.{EndFacts, Wrote, at_end_so, broke_off, end_facts, frames_are, goes_on_so, held_is, lent_is_held, open_so, passed_all, passed_on, ready_says, some_is, write_failed, wrote_all}
-use Rattle.relay_engine.proofs.DrainingLemmas.{again, drained_later}
+use Rattle.relay_engine.proofs.LendLemmas.{EndFacts, Wrote, at_end_so, broke_off, end_facts, frames_are, goes_on_so, held_is, lent_is_held, open_so, passed_all, passed_on, ready_says, some_is, write_failed, wrote_all}
+use Rattle.relay_engine.proofs.BehindOthersLemmas.{again, drained_later}
+use Rattle.relay_engine.proofs.LaterLemmas.{later_as, later_on, later_with}
 
 -- ---- why a drainer ends
 
@@ -91,7 +92,7 @@ concludes_unflushed d h text gain n i w r stop facts = record {
 -- ---- what is owed of a lend
 
 -- What a read has lent, and what was written of it.
-record IsLent (d d1 : DrainState) (found : List Call) (text : List ℕ) (ended : Option ℕ) (lent : List ℕ) (before written : SinkState) (drained : Drained) (owed : Owed) : Type 0 where
+record IsLent (d d1 : DrainState) (found : List Call) (text : List ℕ) (ended : Option ℕ) (lent : List ℕ) (before written : SinkState) (drained : LendPassed) (owed : Owed) : Type 0 where
   legal : IsLegal (Read ∷ found)
   same : lent ≡ held found
   code : ended ≡ writer_end found
@@ -101,19 +102,19 @@ record IsLent (d d1 : DrainState) (found : List Call) (text : List ℕ) (ended :
   passed : owed.passed ≡ drained.passed
   len : owed.len ≡ length lent
 
-all_wrote : (d d1 : DrainState) (found : List Call) (text : List ℕ) (ended : Option ℕ) (lent : List ℕ) (before written : SinkState) (drained : Drained) (owed : Owed) → (l : IsLent d d1 found text ended lent before written drained owed)
+all_wrote : (d d1 : DrainState) (found : List Call) (text : List ℕ) (ended : Option ℕ) (lent : List ℕ) (before written : SinkState) (drained : LendPassed) (owed : Owed) → (l : IsLent d d1 found text ended lent before written drained owed)
     → EndFacts d found text l.drains.text drained.passed drained.frames drained.written (length lent - drained.passed) drained.stop
 all_wrote d d1 found text ended lent before written drained owed l =
     end_facts d found text l.drains.text drained.passed drained.frames drained.written (length lent - drained.passed) drained.stop l.legal.0 l.passed_so_far (wrote_all d.job lent (held found) ended (writer_end found) before written drained l.same l.code l.drains)
 
-concludes_at : (d d1 : DrainState) (found : List Call) (text : List ℕ) (ended : Option ℕ) (lent : List ℕ) (before written : SinkState) (drained : Drained) (owed : Owed) (end : DrainEnd) → (l : IsLent d d1 found text ended lent before written drained owed)
+concludes_at : (d d1 : DrainState) (found : List Call) (text : List ℕ) (ended : Option ℕ) (lent : List ℕ) (before written : SinkState) (drained : LendPassed) (owed : Owed) (end : DrainEnd) → (l : IsLent d d1 found text ended lent before written drained owed)
     → Concludes d.job (added d drained.passed drained.frames drained.written (length lent - drained.passed)).frames (added d drained.passed drained.frames drained.written (length lent - drained.passed)).written found (text ++ l.drains.text) end
     → Concludes d1.job d1.frames d1.written (Read ∷ found) (text ++ l.drains.text) end
 concludes_at d d1 found text ended lent before written drained owed end l c =
     subst (λ (e : DrainState). Concludes e.job e.frames e.written (Read ∷ found) (text ++ l.drains.text) end) (sym l.drainer)
     (again d.job _ _ found (Read ∷ found) (text ++ l.drains.text) end refl refl c)
 
-stands_by : (d d1 : DrainState) (found : List Call) (text : List ℕ) (ended : Option ℕ) (lent : List ℕ) (before written after : SinkState) (drained : Drained) (owed : Owed) (o : Option DrainEnd) → (l : IsLent d d1 found text ended lent before written drained owed)
+stands_by : (d d1 : DrainState) (found : List Call) (text : List ℕ) (ended : Option ℕ) (lent : List ℕ) (before written after : SinkState) (drained : LendPassed) (owed : Owed) (o : Option DrainEnd) → (l : IsLent d d1 found text ended lent before written drained owed)
     → end_at drained.stop ended d1.place ≡ o → EndsOwed o written owed.end after → StandsBehind d1 owed.end (Read ∷ found) (Advance owed.passed owed.len ∷ Read ∷ found) (text ++ l.drains.text)
 stands_by d d1 found text ended lent before written after drained owed None l at ends_owed =
     let so = goes_on_so drained.stop ended d1.place at in
@@ -145,7 +146,7 @@ stands_by d d1 found text ended lent before written after drained owed (Some end
 may_advance : (found : List Call) (lent : List ℕ) (c e : ℕ) → IsLegal (Read ∷ found) → lend (Read ∷ found) ≡ Some lent → c ≤ e → e ≤ length lent → MayFollow (Advance c e) (Read ∷ found)
 may_advance found lent c e legal lends first second = (legal.1.0, subst (λ (o : Option (List ℕ)). IsSomeAnd o (λ bytes. (c ≤ e) × (e ≤ length bytes))) (sym lends) (first, second))
 
-owes_lend : (d d1 : DrainState) (found : List Call) (text : List ℕ) (ended : Option ℕ) (lent : List ℕ) (before written after : SinkState) (drained : Drained) (owed : Owed) → (l : IsLent d d1 found text ended lent before written drained owed) → lend (Read ∷ found) ≡ Some lent
+owes_lend : (d d1 : DrainState) (found : List Call) (text : List ℕ) (ended : Option ℕ) (lent : List ℕ) (before written after : SinkState) (drained : LendPassed) (owed : Owed) → (l : IsLent d d1 found text ended lent before written drained owed) → lend (Read ∷ found) ≡ Some lent
     → EndsOwed (end_at drained.stop ended d1.place) written owed.end after → Owes d1 owed (Read ∷ found) (text ++ l.drains.text)
 owes_lend d d1 found text ended lent before written after drained owed l lends ends_owed = record {
   may = may_advance found lent owed.passed owed.len l.legal lends (omega (arith, l.passed, l.len, l.drains.passes.within)) (omega (arith, l.len));
@@ -172,26 +173,11 @@ gains_by stop ended place (Some end) owed_end before written after gain taken at
 
 -- ---- the step
 
-later_goes : (others : Call → Type 0) (h k : List Call) → Later others h k → GoesOn others h k
-later_goes others h k later = record { calls = later.between; all = all later.between later.all; is = later.is }
-  where
-    all : (calls : List Call) → AllByRecursion others calls → AllByRecursion (λ call. (seat_of call ≡ 1) ⊎ others call) calls
-    all [] so = tt
-    all (call ∷ calls) so = (inr so.0, all calls so.1)
+later_goes : (others : Call → Type 0) (h k : List Call) → Later others h k → Later (OrReaders others) h k
+later_goes others h k later = later_as others (OrReaders others) (λ call is. inr is) h k later
 
-both : (others : Call → Type 0) (xs ys : List Call) → AllByRecursion (λ call. (seat_of call ≡ 1) ⊎ others call) xs → AllByRecursion (λ call. (seat_of call ≡ 1) ⊎ others call) ys → AllByRecursion (λ call. (seat_of call ≡ 1) ⊎ others call) (xs ++ ys)
-both others [] ys first second = second
-both others (x ∷ xs) ys first second = (first.0, both others xs ys first.1 second)
-
-pub goes_further : (others : Call → Type 0) (h k m : List Call) → GoesOn others h k → GoesOn others k m → GoesOn others h m
-goes_further others h k m first second = record {
-  calls = second.calls ++ first.calls;
-  all = both others second.calls first.calls second.all first.all;
-  is = second.is ∙ ap (λ (x : List Call). second.calls ++ x) first.is ∙ sym (append_assoc second.calls first.calls h);
-}
-
-with_call : (others : Call → Type 0) (h k : List Call) (call : Call) → seat_of call ≡ 1 → GoesOn others h k → GoesOn others h (call ∷ k)
-with_call others h k call own on = record { calls = call ∷ on.calls; all = (inl own, on.all); is = ap (λ (x : List Call). call ∷ x) on.is }
+with_call : (others : Call → Type 0) (h k : List Call) (call : Call) → seat_of call ≡ 1 → Later (OrReaders others) h k → Later (OrReaders others) h (call ∷ k)
+with_call others h k call own on = later_with (OrReaders others) h k call (inl own) on
 
 -- no other consumes or examines
 same_marks : (others : Call → Type 0) → ((call : Call) → others call → seat_of call ≢ 1) → (h : List Call) (calls : List Call) → AllByRecursion others calls → (consumed (calls ++ h) ≡ consumed h) × (examined (calls ++ h) ≡ examined h)
@@ -293,14 +279,14 @@ step_by at others refuses exchanges d d1 d' h found text gain p p1 p' (Err fault
   record { found = p1; behind = first; refused = how.2 },
 )
 
-advanced_goes : {P : Type 0} (at : P → List Call → Type 0) (others : Call → Type 0) (refuses : TryFault → P → P → Type 0) (d d' : DrainingState) (owed : Owed) (h : List Call) (text : List ℕ) (p p' : P) (result : Result Progress TryFault) (k : List Call) → AdvancesBy at others refuses d owed h text p result d' k p' → GoesOn others h k
+advanced_goes : {P : Type 0} (at : P → List Call → Type 0) (others : Call → Type 0) (refuses : TryFault → P → P → Type 0) (d d' : DrainingState) (owed : Owed) (h : List Call) (text : List ℕ) (p p' : P) (result : Result Progress TryFault) (k : List Call) → AdvancesBy at others refuses d owed h text p result d' k p' → Later (OrReaders others) h k
 advanced_goes at others refuses d d' owed h text p p' (Ok (Idle n)) k how = absurd how
 advanced_goes at others refuses d d' owed h text p p' (Ok (Moved frames)) k how = goes_to others h k owed how.2
   where
-    goes_to : (others : Call → Type 0) (h k : List Call) (owed : Owed) → IsAdvanced others owed h k → GoesOn others h k
-    goes_to others h k owed advanced = subst (λ (x : List Call). GoesOn others h x) (sym advanced.is) (with_call others h advanced.found (Advance owed.passed owed.len) refl (later_goes others h advanced.found advanced.later))
+    goes_to : (others : Call → Type 0) (h k : List Call) (owed : Owed) → IsAdvanced others owed h k → Later (OrReaders others) h k
+    goes_to others h k owed advanced = subst (λ (x : List Call). Later (OrReaders others) h x) (sym advanced.is) (with_call others h advanced.found (Advance owed.passed owed.len) refl (later_goes others h advanced.found advanced.later))
 advanced_goes at others refuses d d' owed h text p p' (Ok (Ended end)) k how =
-    subst (λ (x : List Call). GoesOn others h x) (sym how.1.is) (with_call others h how.1.found (Advance owed.passed owed.len) refl (later_goes others h how.1.found how.1.later))
+    subst (λ (x : List Call). Later (OrReaders others) h x) (sym how.1.is) (with_call others h how.1.found (Advance owed.passed owed.len) refl (later_goes others h how.1.found how.1.later))
 advanced_goes at others refuses d d' owed h text p p' (Err fault) k how = later_goes others h k how.0
 
 pub read_passed : {P A : Type 0} (at : P → List Call → Type 0) (others : Call → Type 0) (refuses : TryFault → P → P → Type 0) (exchanges : P → ℕ) (lent : P → Option ℕ) (aside : P → A) (d d1 d' : DrainingState) (p p1 p' : P) (before after : SinkState) (canceled : Bool) (ended : Option ℕ) (len : ℕ) (bytes : List ℕ) (owed : Owed) (result : Result Progress TryFault)
@@ -328,7 +314,7 @@ read_passed at others refuses exchanges lent aside d d1 d' p p1 p' before after 
           let read_on = with_call others h found Read refl (later_goes others h found r.later) in
           record {
             now = a.now;
-            on = goes_further others h (Read ∷ found) a.now read_on (advanced_goes at others refuses d1 d' owed (Read ∷ found) (text ++ gain) p1 p' result a.now a.how);
+            on = later_on (OrReaders others) h (Read ∷ found) a.now read_on (advanced_goes at others refuses d1 d' owed (Read ∷ found) (text ++ gain) p1 p' result a.now a.how);
             legal = a.legal;
             stands = a.stands;
             how = step_by at others refuses exchanges d d1 d' h found text gain p p1 p' result owed a.now fresh first a.how (λ frames none told same_d is_advanced.

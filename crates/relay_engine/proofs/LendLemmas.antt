@@ -29,7 +29,7 @@ use Rattle.std.proofs.lemmas.List.Sums.{prefix_len-le-length}
 use Rattle.pipe_core.proofs.OrderLemmas.{ordered, seen_all, total_commit}
 use Rattle.edge_core.specs.Device.{SinkState}
 use Rattle.relay_engine.specs.Frames.{Breaks, Drains, Passes, StopsAt, capped, verdict_of}
-use Rattle.relay_engine.specs.declared.frames.Drained.{Drained}
+use Rattle.relay_engine.specs.declared.frames.LendPassed.{LendPassed}
 use Rattle.relay_engine.specs.declared.frames.Broken.{Broken}
 use Rattle.relay_engine.specs.Drainer.{DrainState, IsDrained, is_success, is_whole, looked_at, translated}
 use Rattle.relay_engine.specs.Passing.{IsKnown, added, end_at}
@@ -37,6 +37,7 @@ use Rattle.relay_engine.specs.declared.frames.Stop.{Stop}
 use Rattle.relay_engine.specs.declared.frames.Stop.TheVariants as stops
 use Rattle.relay_engine.proofs.FrameLemmas.{may_stop, passed_text, passes_more}
 use Rattle.relay_engine.proofs.CountLemmas.{frames_all, frames_before}
+use Rattle.relay_engine.proofs.LaterLemmas.{none_is}
 
 -- ---- what is said by a reply
 
@@ -338,7 +339,7 @@ write_failed d h text gain i w legal drained broke =
       written = capped_sum text gain d.written w drained.counted broke.counted;
     }
 
-pub wrote_all : (job : Job) (lent x : List ℕ) (ended ended' : Option ℕ) (a b : SinkState) (drained : Drained) → lent ≡ x → ended ≡ ended' → (drains : Drains job lent (is_success ended) a drained b)
+pub wrote_all : (job : Job) (lent x : List ℕ) (ended ended' : Option ℕ) (a b : SinkState) (drained : LendPassed) → lent ≡ x → ended ≡ ended' → (drains : Drains job lent (is_success ended) a drained b)
     → Wrote job x (is_success ended') drained.passed drained.frames drained.written drained.stop drains.text
 wrote_all job lent x ended ended' a b drained same code drains =
     subst (λ (y : List ℕ). Wrote job y (is_success ended') drained.passed drained.frames drained.written drained.stop drains.text) same
@@ -404,10 +405,6 @@ none_in_front x y k within none =
     subst (λ (z : List ℕ). IsNone (position is_line_feed z)) (sym front)
     (subst (λ (o : Option ℕ). IsNone o) (sym (position_past is_line_feed (take k x) (front_len x k within all))) refl)
   where
-    none_is : (o : Option ℕ) → IsNone o → o ≡ None
-    none_is None none = refl
-    none_is (Some at) none = absurd cc
-
     front_len : (x : List ℕ) (k : ℕ) → k ≤ length x → position_or_len is_line_feed x ≡ length x → position_or_len is_line_feed (take k x) ≡ length (take k x)
     front_len x k within all = elim (cases_lt (position_or_len is_line_feed (take k x)) (length (take k x))) [
       | inl lt ↦

@@ -21,8 +21,9 @@ use Rattle.relay_engine.specs.declared.drain_end.DrainEnd.{DrainEnd}
 use Rattle.relay_engine.specs.declared.drain_end.DrainEnd.TheVariants as ends
 use Rattle.relay_engine.specs.declared.draining.Owed.{Owed}
 use Rattle.relay_engine.specs.declared.draining.Progress.TheVariants.{Moved, Ended}
-use Rattle.relay_engine.proofs.DrainLemmas.{behind_call, behind_others}
+use Rattle.relay_engine.proofs.LendLemmas.{behind_call, behind_others}
 use Rattle.relay_engine.proofs.CountLemmas.{frames_of_more}
+use Rattle.relay_engine.proofs.LaterLemmas.{all_as, none_is}
 
 -- ---- others' calls before an advance
 
@@ -49,10 +50,6 @@ exchanged d h text c e CancelFlush other drained = record { place = drained.plac
 
 not_whole : (ended : Option ℕ) → ended ≡ None → is_success ended ≡ false
 not_whole ended none = ap is_success none
-
-none_is : (o : Option ℕ) → IsNone o → o ≡ None
-none_is None none = refl
-none_is (Some at) none = absurd cc
 
 counted : (job : Job) (frames : ℕ) (h h' : List Call) (text y : List ℕ) → writer_end h ≡ None → total h' ≡ total h ++ y → IsPrefix text (translated job h).text → frames ≡ frames_in job (total h) (is_whole h) text → frames ≡ frames_in job (total h') (is_whole h') text
 counted job frames h h' text y none more front told =
@@ -139,17 +136,13 @@ owes_behind d owed h text (call ∷ calls) others legal owes =
 
 -- ---- in terms of a later history
 
-not_readers : (others : Call → Type 0) → ((call : Call) → others call → seat_of call ≢ 1) → (calls : List Call) → AllByRecursion others calls → AllByRecursion (λ call. seat_of call ≢ 1) calls
-not_readers others ours [] all = tt
-not_readers others ours (call ∷ calls) all = (ours call all.0, not_readers others ours calls all.1)
-
 pub drained_later : (others : Call → Type 0) → ((call : Call) → others call → seat_of call ≢ 1) → (d : DrainState) (h k : List Call) (text : List ℕ) → Later others h k → IsLegal k → IsDrained d h text → IsDrained d k text
 drained_later others ours d h k text later legal drained =
-    subst (λ (x : List Call). IsDrained d x text) (sym later.is) (behind_others d h text later.between (not_readers others ours later.between later.all) (subst IsLegal later.is legal) drained)
+    subst (λ (x : List Call). IsDrained d x text) (sym later.is) (behind_others d h text later.between (all_as others (λ call. seat_of call ≢ 1) ours later.between later.all) (subst IsLegal later.is legal) drained)
 
 pub owes_later : (others : Call → Type 0) → ((call : Call) → others call → seat_of call ≢ 1) → (d : DrainState) (owed : Owed) (h k : List Call) (text : List ℕ) → Later others h k → IsLegal k → Owes d owed h text → Owes d owed k text
 owes_later others ours d owed h k text later legal owes =
-    subst (λ (x : List Call). Owes d owed x text) (sym later.is) (owes_behind d owed h text later.between (not_readers others ours later.between later.all) (subst IsLegal later.is legal) owes)
+    subst (λ (x : List Call). Owes d owed x text) (sym later.is) (owes_behind d owed h text later.between (all_as others (λ call. seat_of call ≢ 1) ours later.between later.all) (subst IsLegal later.is legal) owes)
 
 -- ---- an advance that was owed
 

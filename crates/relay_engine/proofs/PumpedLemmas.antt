@@ -16,12 +16,13 @@ use Rattle.pipe_shared.specs.Turns.{Seat}
 use Rattle.pipe_shared.specs.Made.{ClosesPipe}
 use Rattle.pipe_shared.proofs.StateLemmas.{calls_of-append}
 use Rattle.relay_engine.specs.Filler.{written}
-use Rattle.relay_engine.specs.Filler.{end_code as fill_code}
+use Rattle.relay_engine.specs.Filler.{fill_code}
 use Rattle.relay_engine.specs.Drainer.{end_code}
 use Rattle.relay_engine.specs.Sides.{HasFilled}
-use Rattle.relay_threads.specs.Pumped.{HasPumped}
-use Rattle.relay_threads.proofs.MeetLemmas.{legal_behind, no_code, number_is, one_is_first, stays_ended, total_attended, written_by_commits, written_by_writer, written_more}
-use Rattle.relay_engine.proofs.ReportLemmas.{SawAll, SawFront, Stands, at_end_is, by_end, of_all, of_front, reported}
+use Rattle.relay_engine.specs.Pumped.{HasPumped}
+use Rattle.relay_engine.proofs.MeetLemmas.{legal_before, number_is, one_is_first, stays_ended, total_attended, written_by_commits, written_by_writer, written_more}
+use Rattle.relay_engine.proofs.LaterLemmas.{none_is}
+use Rattle.relay_engine.proofs.ReportLemmas.{SawAll, SawFront, HoldsOfAll, at_end_is, by_end, of_all, of_front, reported}
 
 -- ---- what the reader had seen of what was taken
 
@@ -37,11 +38,11 @@ saw x fill code all behind_reader found behind_writer h legal taken by_reader by
     legal_writer = subst IsLegal (sym by_writer) legal
 
     completing : IsLegal (EndReader code ∷ found)
-    completing = legal_behind behind_reader (EndReader code ∷ found) legal_reader
+    completing = legal_before behind_reader (EndReader code ∷ found) legal_reader
 
     parts : total found ++ written behind_reader ≡ x
     parts =
-        ap (λ (l : List ℕ). l ++ written behind_reader) (total_attended found (no_code (reader_end found) completing.1))
+        ap (λ (l : List ℕ). l ++ written behind_reader) (total_attended found (none_is (reader_end found) completing.1))
         ∙ sym (written_more behind_reader (EndReader code ∷ found)) ∙ ap written by_reader ∙ taken
 
     by_end : (o : Option ℕ) → writer_end found ≡ o → SawAll x fill found ⊎ SawFront x found
@@ -80,7 +81,7 @@ pub settled : (job : Job) (report : Report) (writer reader canceller : Seat) (cl
 settled job report writer reader canceller closed sb s kb k limit pumped closes =
     let filled = pumped.filled in
     let drained = pumped.drained in
-    let stands : Stands job filled.taken pumped.filling drained.found drained.text pumped.draining =
+    let stands : HoldsOfAll job filled.taken pumped.filling drained.found drained.text pumped.draining =
     elim (met job.limit pumped.filling writer reader canceller closed report.taken (end_code pumped.draining) drained.found sb s filled drained.seen closes) [
       | inl saw ↦ of_all job report.frames report.written filled.taken pumped.filling drained.found drained.text pumped.draining drained.concludes saw
       | inr saw ↦ of_front job report.frames report.written filled.taken pumped.filling drained.found drained.text pumped.draining drained.concludes saw
