@@ -2,7 +2,8 @@
 
 ghost use Rattle.std.specs.Prelude.{◌≡◌, [], None, IfSome, IsSomeAnd};
 ghost use Rattle.turn_cell.specs.Seat.{IsIdle, IsOf};
-ghost use Rattle.relay_engine.specs.PipeDrainer.{IsDraining, IsOfPipe, OwesNothing};
+ghost use Rattle.pipe_shared.specs.Log.{IsLawful};
+ghost use Rattle.relay_engine.specs.PipeDrainer.{IsOfPipe};
 
 use edge_core::MemSink;
 use frame_grammar::{BadKind, Framing, Job};
@@ -32,7 +33,7 @@ const JOB: Job = Job {
 
 fn made(alloc: Global) -> Option<Made>
     ensures { IfSome result (λ made. IsIdle made.0 made.1.seat × IsIdle made.0 made.2.seat × IsOf made.0 made.3
-        × (made.2.seat.seen ≡ []) × (made.2.lent ≡ None)) }
+        × (made.2.seat.own ≡ []) × IsLawful made.2.seat.seen × (made.2.lent ≡ None)) }
 {
     Pipe::make(alloc, OPTIONS).ok()
 }
@@ -73,8 +74,7 @@ fn complete(pipe: &Pipe, w: WriterEnd) -> Option<WriterDone>
 
 /// A step that isn't the last.
 fn step(drainer: &mut Drainer, pipe: &Pipe, sink: &mut MemSink) -> Option<DrainStep>
-    requires pipe { IsSomeAnd drainer.old.end (λ r. IsIdle pipe.now r.seat) }
-    requires going { IsDraining drainer.old [] }
+    requires { IsSomeAnd drainer.old.end (λ r. IsIdle pipe.now r.seat) }
     ensures { IfSome result (λ step. IsOfPipe pipe.now step drainer.new) }
 {
     Some(drainer.step(pipe, sink))

@@ -16,6 +16,7 @@ use Rattle.pipe_shared.specs.Heard.{CallsBehind}
 use Rattle.pipe_shared.specs.Turns.{Seat}
 use Rattle.pipe_shared.specs.Ends.{Writer, IsEnd}
 use Rattle.relay_engine.specs.Filler.{written}
+use Rattle.relay_engine.specs.Tally.{Spends, tally_of}
 use Rattle.relay_engine.specs.PipeFiller.{Completes, MayClose, seen_by}
 
 -- ---- what a seat has made stands in what it has seen
@@ -79,8 +80,8 @@ own_is seat code found end lawful seen =
 
 -- ---- the completion of a writer that has drafted nothing
 
-pub completes : (options : Options) (code : ℕ) (wake : Wake) (w : Writer) (seat : Seat) → MayClose w → CallsBehind options 0 (seen_by w) (closing w.draft code) (Woke wake) (calls_of seat.seen) → IsLawful seat.seen → IsEnd 0 seat → Completes code w seat
-completes options code wake w seat may b lawful end =
+pub completes : (options : Options) (code : ℕ) (wake : Wake) (w : Writer) (seat : Seat) → MayClose w → CallsBehind options 0 (seen_by w) (closing w.draft code) (Woke wake) (calls_of seat.seen) → IsLawful seat.seen → IsEnd 0 seat → Spends 0 (tally_of w.seat) (tally_of seat) → Completes code w seat
+completes options code wake w seat may b lawful end spent =
     let found = b.heard ++ seen_by w in
     let seen : calls_of seat.seen ≡ EndWriter code ∷ found = b.seen ∙ ap (λ (draft : List Run). closing draft code ++ found) may.settled in
     record {
@@ -91,4 +92,5 @@ completes options code wake w seat may b lawful end =
       commits = commits_of found;
       own = own_is seat code found end lawful seen;
       bytes = bytes_are found;
+      spent = spent;
     }

@@ -1,19 +1,18 @@
 -- How a translation goes on behind the frames that were passed over.
-use Rattle.std.proofs.Common.{◌≡◌, ◌≤◌, ◌+◌, ◌-◌, ◌*◌, ◌^◌, cond, ℕ, Bool, true, false, List, [], ◌∷◌, ◌++◌, length, drop, Option, Some, None, Result, Ok, Err, refl, sym, ap, ◌∙◌, append_assoc, arith, inl, inr, ◌⊎◌, add_assoc, zero-add}
+use Rattle.std.proofs.Common.{◌≡◌, ◌+◌, ◌-◌, ◌^◌, cond, ℕ, Bool, true, false, List, [], ◌∷◌, ◌++◌, length, drop, Option, Some, None, Result, Ok, Err, refl, sym, ap, ◌∙◌, append_assoc, arith, inl, inr, ◌⊎◌, add_assoc, zero-add}
 use Rattle.std.specs.Prelude.{IsNone, is_none, min, slice_range, unwrap_or, MatchOption}
 use Rattle.std.proofs.lemmas.Grind.{flat_map-append}
-use Rattle.std.proofs.lemmas.List.{append-nil, length-append, length-take, length-drop, drop-drop}
+use Rattle.std.proofs.lemmas.List.{append-nil, length-append, length-drop, drop-append-le, drop-drop}
 use Rattle.std.proofs.Math.Seq.{drop-length}
 use Rattle.frame_model.specs.declared.framing.Framing.{Framing}
 use Rattle.frame_model.specs.declared.framing.Framing.TheVariants.{Len4, Len2, Line}
 use Rattle.frame_model.specs.declared.framing.BadKind.TheVariants.{Unspellable}
 use Rattle.frame_grammar.specs.declared.job.Job.{Job}
-use Rattle.frame_model.specs.Spelling.{head_of, obstacle, spelling, tail_of, text}
+use Rattle.frame_model.specs.Spelling.{obstacle, spelling, text}
 use Rattle.frame_model.specs.Cut.{Verdict, Open, End, Rest, Bad, cut, moved, MayCome}
 use Rattle.frame_model.specs.Translation.{Translation, spellable, from_unspellable, verdict_at, translation_of, behind}
 use Rattle.frame_grammar.specs.Job.{translation}
 use Rattle.frame_model.proofs.FrontLemmas.{front_empty}
-use Rattle.frame_model.proofs.FrameLemmas.{spelling_len}
 use Rattle.frame_grammar.specs.Answers.{BeginsWithFrame}
 use Rattle.relay_model.specs.Run.{payloads_of}
 use Rattle.relay_engine.specs.Frames.{IsFirst, Passes, capped}
@@ -117,8 +116,6 @@ passes_nothing job x at_end = record {
   payloads = [];
   counted = refl;
   spelt = refl;
-  few = omega arith;
-  bounded = omega arith;
   listed = λ z b may. refl;
   goes_on = λ z b may. sym (ap (λ (v : Verdict). record { text = (translation job (x ++ z) b).text; verdict = v }) (moved_zero (translation job (x ++ z) b).verdict));
 }
@@ -131,8 +128,6 @@ passes_more job x at_end m n i j xs ys first second =
       payloads = first.payloads ++ second.payloads;
       counted = omega (arith, first.counted, second.counted, length-append first.payloads second.payloads);
       spelt = ap (λ (t : List ℕ). t ++ ys) first.spelt ∙ ap (λ (t : List ℕ). text job.output first.payloads ++ t) second.spelt ∙ sym (flat_map-append (spelling job.output) first.payloads second.payloads);
-      few = omega (arith, first.few, second.few);
-      bounded = omega (arith, first.bounded, second.bounded, length-append xs ys);
       listed = λ z may_be may.
           first.listed z may_be may ∙ ap (λ (t : List (List ℕ)). first.payloads ++ t) (second.listed z may_be may)
           ∙ sym (append_assoc first.payloads second.payloads (payloads_of job (drop n (drop m x) ++ z) may_be))
@@ -140,6 +135,23 @@ passes_more job x at_end m n i j xs ys first second =
       goes_on = λ z may_be may.
           let then = ap (λ t. behind xs m t) (second.goes_on z may_be may) ∙ behind_behind xs ys m n (translation job (drop n (drop m x) ++ z) may_be) in
           first.goes_on z may_be may ∙ then ∙ ap (λ (y : List ℕ). behind (xs ++ ys) (m + n) (translation job (y ++ z) may_be)) rest;
+    }
+
+-- what is passed over at the front of bytes is passed over whatever comes behind them
+pub passes_within : (job : Job) (x z : List ℕ) (at_end : Bool) (len frames : ℕ) (xs : List ℕ) → Passes job x false len frames xs → Passes job (x ++ z) at_end len frames xs
+passes_within job x z at_end len frames xs passes =
+    let rest : drop len (x ++ z) ≡ drop len x ++ z = drop-append-le len x z passes.within in
+    record {
+      within = omega (arith, passes.within, length-append x z);
+      payloads = passes.payloads;
+      counted = passes.counted;
+      spelt = passes.spelt;
+      listed = λ y b may.
+          ap (λ (t : List ℕ). payloads_of job t b) (append_assoc x z y) ∙ passes.listed (z ++ y) b tt
+          ∙ ap (λ (t : List ℕ). passes.payloads ++ payloads_of job t b) (sym (append_assoc (drop len x) z y) ∙ ap (λ (t : List ℕ). t ++ y) (sym rest));
+      goes_on = λ y b may.
+          ap (λ (t : List ℕ). translation job t b) (append_assoc x z y) ∙ passes.goes_on (z ++ y) b tt
+          ∙ ap (λ (t : List ℕ). behind xs len (translation job t b)) (sym (append_assoc (drop len x) z y) ∙ ap (λ (t : List ℕ). t ++ y) (sym rest));
     }
 
 -- the translation of all of it
@@ -151,18 +163,6 @@ passed_text job x at_end n i xs over =
 -- a count that stays at its greatest number
 pub capped_more : (a b : ℕ) → min (capped a + b) (2 ^ 64 - 1) ≡ capped (a + b)
 capped_more a b = omega arith
-
--- ---- how long a frame is
-
-around : (f : Framing) (n : ℕ) → length (head_of f n) + length (tail_of f) ≤ 4
-around Len4 n = omega arith
-around Len2 n = omega arith
-around Line n = omega arith
-
-pub frame_bounded : (input output : Framing) (max : ℕ) (x : List ℕ) (at_end : Bool) (from to n : ℕ) → BeginsWithFrame input max x at_end from to n → length (spelling output (slice_range x from to)) ≤ 5 * n
-frame_bounded input output max x at_end from to n frame =
-    let p = slice_range x from to in
-    omega (arith, spelling_len output p, around output (length p), length-take (to - from) (drop from x), frame.some, frame.ordered.0, frame.ordered.1)
 
 -- ---- the answers on a payload
 
@@ -182,8 +182,6 @@ one_frame job x at_end from to n frame spelt = record {
   payloads = slice_range x from to ∷ [];
   counted = refl;
   spelt = sym (append-nil (spelling job.output (slice_range x from to)));
-  few = omega (arith, frame.some);
-  bounded = frame_bounded job.input job.output job.max x at_end from to n frame;
   listed = frame_listed job x at_end from to n frame spelt;
   goes_on = frame_goes_on job x at_end from to n frame spelt;
 }

@@ -18,13 +18,12 @@ use Rattle.frame_model.proofs.LongestLemmas.{front_again}
 use Rattle.frame_grammar.specs.Answers.{BeginsWithFrame, Tells, frame_of}
 use Rattle.frame_grammar.proofs.AnswerLemmas.{told}
 use Rattle.frame_fronts.specs.Fronts.{HasNoFrame, IsFront}
-use Rattle.relay_model.specs.Run.{payloads_of}
 use Rattle.relay_engine.specs.declared.gathering.Passed.{Passed}
 use Rattle.relay_engine.specs.Frames.{Interrupts, Passes, capped}
 use Rattle.relay_engine.specs.Gathering.{Gathered, Puts, PutsFront, begun}
 use Rattle.relay_engine.specs.Spelling.{BreaksFrames, PutsFrames, SpellsFront}
 use Rattle.relay_engine.proofs.CleanLemmas.{before_line_feed}
-use Rattle.relay_engine.proofs.FrameLemmas.{capped_more, is_first, passes_more, passes_nothing}
+use Rattle.relay_engine.proofs.FrameLemmas.{capped_more, is_first, passes_more, passes_nothing, passes_within}
 use Rattle.relay_engine.proofs.DeviceLemmas.{takes_nothing}
 use Rattle.relay_engine.proofs.GatherLemmas.{puts_more}
 use Rattle.relay_engine.proofs.WriteLemmas.{interrupted, text_behind}
@@ -74,25 +73,6 @@ pub front_is_passed : (job : Job) (x : List ℕ) (at_end : Bool) (len frames : �
     → Passes job x at_end len frames (text job.output payloads)
 front_is_passed job x at_end len frames payloads is =
     passes_same job x at_end _ _ _ _ _ (sym is.size) (sym is.counted) (front_passes job x at_end payloads (drop len x) is.each is.parts)
-
--- what is passed over at the front of bytes is passed over whatever comes behind them
-pub passes_within : (job : Job) (x z : List ℕ) (at_end : Bool) (len frames : ℕ) (xs : List ℕ) → Passes job x false len frames xs → Passes job (x ++ z) at_end len frames xs
-passes_within job x z at_end len frames xs passes =
-    let rest : drop len (x ++ z) ≡ drop len x ++ z = drop-append-le len x z passes.within in
-    record {
-      within = omega (arith, passes.within, length-append x z);
-      payloads = passes.payloads;
-      counted = passes.counted;
-      spelt = passes.spelt;
-      few = passes.few;
-      bounded = passes.bounded;
-      listed = λ y b may.
-          ap (λ (t : List ℕ). payloads_of job t b) (append_assoc x z y) ∙ passes.listed (z ++ y) b tt
-          ∙ ap (λ (t : List ℕ). passes.payloads ++ payloads_of job t b) (sym (append_assoc (drop len x) z y) ∙ ap (λ (t : List ℕ). t ++ y) (sym rest));
-      goes_on = λ y b may.
-          ap (λ (t : List ℕ). translation job t b) (append_assoc x z y) ∙ passes.goes_on (z ++ y) b tt
-          ∙ ap (λ (t : List ℕ). behind xs len (translation job t b)) (sym (append_assoc (drop len x) z y) ∙ ap (λ (t : List ℕ). t ++ y) (sym rest));
-    }
 
 -- ---- frames that are spelt anew
 
@@ -190,7 +170,7 @@ pub front_failed : (job : Job) (x first : List ℕ) (at_end : Bool) (h i : Gathe
 front_failed job x first at_end h i s t u n frames text small passes puts is broken =
     let there = within_rest job (drop n x) first at_end broken.len broken.frames broken.text is broken.passes in
     interrupted job x at_end h i s t u n frames text broken.text (translation job (drop broken.len (drop n x)) at_end).text small passes puts
-    (text_behind job (drop n x) at_end broken.len broken.frames broken.text there) (omega (arith, there.bounded, there.within)) broken.failed
+    (text_behind job (drop n x) at_end broken.len broken.frames broken.text there) broken.failed
 
 -- what is known of line feeds behind them
 first_within : (x first : List ℕ) (len m : ℕ) → take (length first) x ≡ first → len ≤ length first → m ≤ length (drop len first) → (m ≤ length (drop len x)) × (take m (drop len x) ≡ take m (drop len first))

@@ -8,11 +8,15 @@ pub none_is : (o : Option ℕ) → IsNone o → o ≡ None
 none_is None none = refl
 none_is (Some at) none = absurd cc
 
+pub none_of : {A : Type 0} (o : Option A) → ((x : A) → o ≡ Some x → ⊥) → o ≡ None
+none_of None never = refl
+none_of (Some x) never = absurd (never x refl)
+
 pub all_as : (some others : Call → Type 0) → ((call : Call) → some call → others call) → (calls : List Call) → AllByRecursion some calls → AllByRecursion others calls
 all_as some others are [] all = tt
 all_as some others are (call ∷ calls) all = (are call all.0, all_as some others are calls all.1)
 
-all_append : (others : Call → Type 0) (xs ys : List Call) → AllByRecursion others xs → AllByRecursion others ys → AllByRecursion others (xs ++ ys)
+pub all_append : (others : Call → Type 0) (xs ys : List Call) → AllByRecursion others xs → AllByRecursion others ys → AllByRecursion others (xs ++ ys)
 all_append others [] ys first second = second
 all_append others (x ∷ xs) ys first second = (first.0, all_append others xs ys first.1 second)
 

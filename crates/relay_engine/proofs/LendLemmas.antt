@@ -1,6 +1,6 @@
 -- What a lend is, and what the frames of it come to in all that is committed.
 use Rattle.std.specs.List.{AllByRecursion, position_or_len}
-use Rattle.std.proofs.Common.{not, ◌≡◌, ◌≢◌, ◌<◌, ◌≤◌, ◌+◌, ◌-◌, ◌*◌, ◌^◌, IsNone, position, ℕ, Bool, true, false, cond, List, [], ◌∷◌, ◌++◌, length, take, drop, Option, Some, None, refl, sym, ap, ◌∙◌, subst, append-nil, append_assoc, arith, add-zero, inl, inr, ◌⊎◌}
+use Rattle.std.proofs.Common.{not, ◌≡◌, ◌≢◌, ◌<◌, ◌≤◌, ◌+◌, ◌-◌, ◌^◌, IsNone, position, ℕ, Bool, true, false, cond, List, [], ◌∷◌, ◌++◌, length, take, drop, Option, Some, None, refl, sym, ap, ◌∙◌, subst, append-nil, append_assoc, arith, add-zero, inl, inr, ◌⊎◌}
 use Rattle.std.specs.Prelude.{is_none, max, unwrap_or}
 use Rattle.std.proofs.lemmas.Grind.{flat_map-append}
 use mathlib.Core.List.{IsPrefix}
@@ -35,7 +35,8 @@ use Rattle.relay_engine.specs.Drainer.{DrainState, IsDrained, is_success, is_who
 use Rattle.relay_engine.specs.Passing.{IsKnown, added, end_at}
 use Rattle.relay_engine.specs.declared.frames.Stop.{Stop}
 use Rattle.relay_engine.specs.declared.frames.Stop.TheVariants as stops
-use Rattle.relay_engine.proofs.FrameLemmas.{may_stop, passed_text, passes_more}
+use Rattle.relay_engine.proofs.FrameLemmas.{passed_text, passes_more, passes_within}
+use Rattle.relay_engine.proofs.BoundLemmas.{listed_all, passes_few}
 use Rattle.relay_engine.proofs.CountLemmas.{frames_all, frames_before}
 use Rattle.relay_engine.proofs.LaterLemmas.{none_is}
 
@@ -65,41 +66,9 @@ pending_says h n legal e =
 
 -- ---- all that is committed, behind what was passed over
 
-passes_longer : (job : Job) (x y : List ℕ) (n i : ℕ) (text : List ℕ) → Passes job x false n i text → Passes job (x ++ y) false n i text
-passes_longer job x y n i text over =
-    let rest : drop n (x ++ y) ≡ drop n x ++ y = drop-append-le n x y over.within in
-    record {
-      within = omega (arith, over.within, length-append x y);
-      payloads = over.payloads;
-      counted = over.counted;
-      spelt = over.spelt;
-      few = over.few;
-      bounded = over.bounded;
-      listed = λ z at_end may.
-          ap (λ (t : List ℕ). payloads_of job t at_end) (append_assoc x y z) ∙ over.listed (y ++ z) at_end tt
-          ∙ ap (λ (t : List ℕ). over.payloads ++ payloads_of job t at_end) (sym (ap (λ (t : List ℕ). t ++ z) rest ∙ append_assoc (drop n x) y z));
-      goes_on = λ z at_end may.
-          ap (λ (t : List ℕ). translation job t at_end) (append_assoc x y z) ∙ over.goes_on (y ++ z) at_end tt
-          ∙ ap (λ (t : List ℕ). behind text n (translation job t at_end)) (sym (ap (λ (t : List ℕ). t ++ z) rest ∙ append_assoc (drop n x) y z));
-    }
-
-passes_to_end : (job : Job) (x : List ℕ) (n i : ℕ) (text : List ℕ) (at_end : Bool) → Passes job x false n i text → Passes job x at_end n i text
-passes_to_end job x n i text at_end over = record {
-  within = over.within;
-  payloads = over.payloads;
-  counted = over.counted;
-  spelt = over.spelt;
-  few = over.few;
-  bounded = over.bounded;
-  listed = λ z b may. over.listed z b tt;
-  goes_on = λ z b may. over.goes_on z b tt;
-}
-
 pub so_far : (d : DrainState) (h : List Call) (text : List ℕ) (at_end : Bool) → IsDrained d h text → Passes d.job (total h) at_end d.place d.frames text
 so_far d h text at_end drained =
-    let all : looked_at h ++ drop (examined h) (total h) ≡ total h = take-append-drop (examined h) (total h) in
-    passes_to_end d.job (total h) d.place d.frames text at_end
-    (subst (λ (x : List ℕ). Passes d.job x false d.place d.frames text) all (passes_longer d.job (looked_at h) (drop (examined h) (total h)) d.place d.frames text drained.passes))
+    subst (λ (x : List ℕ). Passes d.job x at_end d.place d.frames text) (take-append-drop (examined h) (total h)) (passes_within d.job (looked_at h) (drop (examined h) (total h)) at_end d.place d.frames text drained.passes)
 
 rest_of : (d : DrainState) (h : List Call) (text : List ℕ) → IsDrained d h text → held h ≡ drop d.place (total h)
 rest_of d h text drained = ap (λ (n : ℕ). drop n (total h)) (sym drained.place)
@@ -150,11 +119,6 @@ nothing_spelt : (f : Framing) (ps : List (List ℕ)) → length (text_of f ps) �
 nothing_spelt f [] none = refl
 nothing_spelt f (p ∷ ps) none = absurd (omega (arith, none, length-append (spelling f p) (text_of f ps), some_spelling f p))
 
-listed_all : (job : Job) (x text : List ℕ) (at_end : Bool) (n i : ℕ) → (passes : Passes job x at_end n i text) → payloads_of job x at_end ≡ passes.payloads ++ payloads_of job (drop n x) at_end
-listed_all job x text at_end n i passes =
-    ap (λ (t : List ℕ). payloads_of job t at_end) (sym (append-nil x)) ∙ passes.listed [] at_end (may_stop at_end)
-    ∙ ap (λ (t : List ℕ). passes.payloads ++ payloads_of job t at_end) (append-nil (drop n x))
-
 -- every frame that is to be written is whole
 pub frames_whole : (job : Job) (x text : List ℕ) (at_end : Bool) (n i : ℕ) (v : Verdict) → Passes job x at_end n i text → translation job x at_end ≡ record { text = text; verdict = v } → frames_in job x at_end text ≡ i
 frames_whole job x text at_end n i v passes told =
@@ -203,7 +167,7 @@ place_is : (d : DrainState) (h : List Call) (text gain : List ℕ) (at_end : Boo
 place_is d h text gain at_end n i w r legal passes = capped_small (d.place + n) (omega (arith, passes.within, legal_total h legal))
 
 pub frames_are : (d : DrainState) (h : List Call) (text gain : List ℕ) (at_end : Bool) (n i w r : ℕ) → IsLegal h → Passes d.job (total h) at_end (d.place + n) (d.frames + i) (text ++ gain) → (added d n i w r).frames ≡ d.frames + i
-frames_are d h text gain at_end n i w r legal passes = capped_small (d.frames + i) (omega (arith, passes.few, passes.within, legal_total h legal))
+frames_are d h text gain at_end n i w r legal passes = capped_small (d.frames + i) (omega (arith, passes_few d.job (total h) (text ++ gain) at_end (d.place + n) (d.frames + i) passes, legal_total h legal))
 
 passes_at : (job : Job) (x text : List ℕ) (at_end : Bool) (n n' i i' : ℕ) → n' ≡ n → i' ≡ i → Passes job x at_end n i text → Passes job x at_end n' i' text
 passes_at job x text at_end n n' i i' same_n same_i passes =
@@ -311,12 +275,10 @@ pub record Broke (job : Job) (x : List ℕ) (at_end : Bool) (i w : ℕ) (gain : 
   pub short : length part < length (spelling job.output next)
   pub all : gain ≡ text ++ part
   pub counted : w ≡ capped (length gain)
-  pub bounded : length gain ≤ 5 * length x
 
 -- What was written is a front of what was to be, and is counted.
 pub record FrontWritten (d : DrainState) (h : List Call) (text : List ℕ) (d' : DrainState) : Type 0 where
   pub front : IsPrefix text (translated d.job h).text
-  pub bounded : length text ≤ 5 * length (total h)
   pub frames : d'.frames ≡ frames_in d.job (total h) (is_whole h) text
   pub written : d'.written ≡ capped (length text)
 
@@ -325,13 +287,11 @@ pub write_failed : (d : DrainState) (h : List Call) (text gain : List ℕ) (i w 
 write_failed d h text gain i w legal drained broke =
     let at_end = is_whole h in
     let passes = passed_all d h text broke.text at_end broke.len i drained broke.passes in
-    let drained_bounded = drained.passes.bounded in
     let all : text ++ gain ≡ (text ++ broke.text) ++ broke.part = ap (λ (t : List ℕ). text ++ t) broke.all ∙ sym (append_assoc text broke.text broke.part) in
     let behind_it : drop broke.len (held h) ≡ drop (d.place + broke.len) (total h) = ap (λ (x : List ℕ). drop broke.len x) (rest_of d h text drained) ∙ drop-drop broke.len d.place (total h) in
     let stands : payloads_of d.job (drop (d.place + broke.len) (total h)) at_end ≡ broke.next ∷ broke.others = ap (λ (x : List ℕ). payloads_of d.job x at_end) (sym behind_it) ∙ broke.stands_next in
     record {
       front = subst (λ (t : List ℕ). IsPrefix t (translated d.job h).text) (sym all) (front_partial d.job (total h) (text ++ broke.text) at_end (d.place + broke.len) (d.frames + i) broke.next broke.part broke.others passes stands broke.is_part);
-      bounded = omega (arith, drained_bounded, broke.bounded, length-append text gain, held_is h legal, drained.place);
       frames =
           frames_are d h text broke.text at_end broke.len i w d.known legal passes
           ∙ sym (frames_partial d.job (total h) (text ++ broke.text) at_end (d.place + broke.len) (d.frames + i) broke.next broke.part broke.others passes stands broke.short)
@@ -363,7 +323,6 @@ broke_off job lent x ended ended' a b broken same code breaks =
       short = breaks.short;
       all = refl;
       counted = breaks.counted;
-      bounded = breaks.bounded;
     }))
 
 -- ---- between the steps

@@ -1,4 +1,5 @@
 mod BehindOthersLemmas
+mod BoundLemmas
 mod CleanLemmas
 mod CountLemmas
 mod DeviceLemmas
@@ -20,6 +21,7 @@ mod PumpedLemmas
 mod ReadOnLemmas
 mod ReaderEndLemmas
 mod ReportLemmas
+mod TallyLemmas
 mod TellLemmas
 mod WriteLemmas
 mod WriterEndLemmas

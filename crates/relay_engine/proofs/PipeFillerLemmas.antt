@@ -1,32 +1,56 @@
 -- A filler of a pipe that two threads use: what the step of its part that knows no pipe is to it.
-use Rattle.std.proofs.Common.{◌≡◌, ◌≤◌, ◌^◌, ℕ, true, false, List, [], ◌∷◌, ◌++◌, length, Option, Some, None, Result, Ok, Err, refl, sym, ap, ◌∙◌, ◌⊎◌, subst, append_assoc, append-nil, arith, inl, inr}
+use Rattle.std.proofs.Common.{◌≡◌, ◌≤◌, ◌^◌, ℕ, false, reverse, List, [], ◌∷◌, ◌++◌, length, Option, Some, None, Result, Ok, Err, refl, sym, ap, ◌∙◌, subst, append-nil, arith}
 use Rattle.std.specs.Prelude.{IfSome, IsNone, unwrap_or}
 use Rattle.std.specs.List.{AllByRecursion}
 use Rattle.std.proofs.lemmas.List.{length-append}
 use Rattle.edge_core.specs.Device.{SourceState}
 use Rattle.relay_model.specs.declared.ending.FillEnd.{FillEnd}
 use Rattle.relay_model.specs.declared.ending.FillEnd.TheVariants as taking
+use Rattle.turn_cell.specs.Seat.{CellState}
 use Rattle.pipe_core.specs.History.{Run, Call, Commit, bytes_of, EndWriter, Read, Advance, EndReader, CancelRead, CancelFlush, reader_end}
 use Rattle.pipe_core.specs.Legal.{IsLegal}
 use Rattle.pipe_shared.specs.declared.options.Options.{Options}
 use Rattle.pipe_shared.specs.declared.faults.Full as room
 use Rattle.pipe_shared.specs.declared.faults.TryFault.{TryFault}
 use Rattle.pipe_shared.specs.declared.faults.TryFault.TheVariants as try
-use Rattle.pipe_shared.specs.Log.{calls_of}
+use Rattle.pipe_shared.specs.Name.{Name}
+use Rattle.pipe_shared.specs.Log.{IsLawful, calls_of}
 use Rattle.pipe_shared.specs.Turns.{Refuses}
-use Rattle.pipe_shared.specs.Ends.{Writer}
+use Rattle.pipe_shared.specs.Ends.{IsEnd, Writer}
 use Rattle.relay_engine.specs.Filler.{written, fill_code}
 use Rattle.relay_engine.specs.Later.{Later}
-use Rattle.relay_engine.proofs.FillingLemmas.{later_or_commits, written_later}
-use Rattle.relay_engine.proofs.LaterLemmas.{later_on}
-use Rattle.relay_engine.specs.Filling.{FillingState, GoesOn, HasTaken, FillsOn, OrCommits}
-use Rattle.relay_engine.specs.WriterEnds.{HasWritten, IsOthers, RefusesWriter, drafting}
-use Rattle.relay_engine.specs.PipeFiller.{Adds, FillerState, IsFiller, MayClose, Closes, CompletesBy, EndsBy, HasEnded, Loses, StepsOn, all_of, closed_as, filler_of, filling_of, is_closed, is_done, seen_by, writer_in}
+use Rattle.relay_engine.proofs.FillingLemmas.{EndsFor, took, written_later}
+use Rattle.relay_engine.proofs.PumpLemmas.{gone_says}
+use Rattle.relay_engine.proofs.MeetLemmas.{written_by_writer}
+use Rattle.relay_engine.specs.Filling.{FillingState, HasTaken, FillsOn}
+use Rattle.relay_engine.specs.WriterEnds.{FindsNoRoom, HasWritten, IsOthers, RefusesWriter, drafting}
+use Rattle.relay_engine.specs.PipeFiller.{FillerState, IsFiller, MayClose, Closes, CompletesBy, EndsFrom, StepsFrom, all_of, closed_as, filler_of, filling_of, is_closed, is_done, seen_by, writer_in}
 use Rattle.relay_engine.specs.declared.filling.Filled.{Filled}
+use Rattle.relay_engine.specs.declared.filling.Filled.TheVariants as filled
 use Rattle.relay_engine.specs.declared.pipe_filler.FillerEnd.{FillerEnd}
 use Rattle.relay_engine.specs.declared.pipe_filler.FillerEnd.TheVariants.{Open, Closed}
 use Rattle.relay_engine.specs.declared.pipe_filler.FillStep.{FillStep}
-use Rattle.relay_engine.specs.declared.pipe_filler.FillStep.TheVariants.{Moved, Paused, Full, Busy, Worn, Done}
+
+-- an end that has made no entry and drafted nothing has taken nothing
+pub none_taken : (w : Writer) → IsEnd 0 w.seat → w.seat.own ≡ [] → IsLawful w.seat.seen → w.draft ≡ [] → all_of w ≡ []
+none_taken w end none lawful undrafted =
+    ap (λ (x : List Run). written (seen_by w) ++ bytes_of x) undrafted ∙ append-nil (written (seen_by w))
+    ∙ written_by_writer w.seat.seen lawful.seats ∙ ap (λ (l : List Call). written (reverse l)) (end.own ∙ none)
+
+pub new_filler : (f : FillingState) (w : Writer) → f.taken ≡ 0 → f.drafted ≡ 0 → f.limit ≤ 2 ^ 40 → IsEnd 0 w.seat → w.seat.own ≡ [] → IsLawful w.seat.seen → w.draft ≡ [] → IsFiller f (Open w) None
+new_filler f w taken drafted small end none lawful undrafted = record {
+  taken = record {
+    stands = (refl, lawful.legal);
+    all = refl;
+    counted = taken ∙ sym (ap length (none_taken w end none lawful undrafted));
+    drafted = drafted ∙ sym (ap (λ (x : List Run). length (bytes_of x)) undrafted);
+    settled = λ unowed. undrafted;
+  };
+  within = omega (arith, taken);
+  small = small;
+  settled = tt;
+  gone = λ code is. absurd cc;
+}
 
 pub all_is : (f : FillingState) (w : Writer) (now : List Call) (bytes : List ℕ) → HasTaken HasWritten drafting f w now bytes → bytes ≡ all_of w
 all_is f w now bytes t = sym t.all ∙ ap (λ (l : List Call). written l ++ bytes_of w.draft) t.stands.0
@@ -58,17 +82,6 @@ fills_as options is_full f f' end w w' ending s before after answer same is fill
     subst (λ (x : FillerState). FillsOn HasWritten IsOthers drafting RefusesWriter options is_full (filling_of x) x.end before answer f' w' after (seen_by x.end) (all_of x.end)) same
     (subst (λ (e : FillerEnd). IsFiller f e ending → FillsOn HasWritten IsOthers drafting RefusesWriter options is_full f (writer_in e) before answer f' w' after (seen_by (writer_in e)) (all_of (writer_in e))) (sym is)
     (λ (i : IsFiller f (Open w) ending). fills (seen_by w) (all_of w) i.taken) filler)
-
-pub later_seen : (f : FillingState) (w : Writer) (h now : List Call) (bytes : List ℕ) → HasTaken HasWritten drafting f w now bytes → Later (OrCommits IsOthers) h now → Later (OrCommits IsOthers) h (seen_by w)
-later_seen f w h now bytes t later = subst (λ (k : List Call). Later (OrCommits IsOthers) h k) t.stands.0 later
-
-pub adds_on : (step : FillStep) (h m k : List Call) → Later (OrCommits IsOthers) h m → Adds step m k → Adds step h k
-adds_on (Done end) h m k later (found, is, more) = (found, is, later_on (OrCommits IsOthers) h m found later more)
-adds_on (Moved n) h m k later more = later_on (OrCommits IsOthers) h m k later more
-adds_on (Paused n) h m k later more = later_on (OrCommits IsOthers) h m k later more
-adds_on (Full full) h m k later more = later_on (OrCommits IsOthers) h m k later more
-adds_on (Busy word) h m k later more = later_on (OrCommits IsOthers) h m k later more
-adds_on (Worn entries) h m k later more = later_on (OrCommits IsOthers) h m k later more
 
 -- ---- the completion
 
@@ -106,7 +119,6 @@ may_close f end ending reason is i =
 pub record ClosedOn (f : FillingState) (end end' : FillerEnd) (ending : Option FillEnd) (reason : FillEnd) (step : FillStep) : Type 0 where
   pub filler : IsFiller f end' ending
   pub completes : CompletesBy step reason (writer_in end) (writer_in end')
-  pub adds : Adds step (seen_by (writer_in end)) (seen_by (writer_in end'))
   pub settled : (writer_in end').draft ≡ []
   pub done : is_closed end' ≡ is_done step
 
@@ -133,15 +145,14 @@ closed_on f (Open w) (Closed seat) ending reason (Ok done) is i c =
         settled = some_if ending reason ([] ≡ []) is refl;
         gone = λ code then. ap reader_end c.seen ∙ gone code (same_reason reason (taking.Gone code) (sym is ∙ then));
       };
-      completes = (refl, record { found = c.found; seen = c.seen; gone = gone; commits = c.commits; own = c.own; bytes = c.bytes ∙ sym (ap written c.seen) ∙ sym (append-nil (written (calls_of seat.seen))) }, all);
-      adds = (c.found, c.seen, later_or_commits IsOthers (seen_by w) c.found c.later);
+      completes = (refl, record { found = c.found; seen = c.seen; gone = gone; commits = c.commits; own = c.own; bytes = c.bytes ∙ sym (ap written c.seen) ∙ sym (append-nil (written (calls_of seat.seen))) }, all, c.spent);
       settled = refl;
       done = refl;
     }
   where
     same_reason : (a b : FillEnd) → Some a ≡ Some b → a ≡ b
     same_reason a b e = ap (λ (o : Option FillEnd). unwrap_or o a) e
-closed_on f (Open w) (Open w') ending reason (Err fault) is i (refuses, draft, hears, behind) =
+closed_on f (Open w) (Open w') ending reason (Err fault) is i (refuses, draft, hears) =
     let settled = if_some ending reason (w.draft ≡ []) is i.settled in
     let found : hears.found ≡ seen_by w' = hears.stands.0 in
     let later : Later IsOthers (seen_by w) (seen_by w') = subst (λ (l : List Call). Later IsOthers (seen_by w) l) found hears.later in
@@ -163,7 +174,6 @@ closed_on f (Open w) (Open w') ending reason (Err fault) is i (refuses, draft, h
         gone = λ code then. gone_later (seen_by w) (seen_by w') code later legal (i.gone code then);
       };
       completes = each fault refuses same;
-      adds = adds fault (later_or_commits IsOthers (seen_by w) (seen_by w') later);
       settled = draft ∙ settled;
       done = done fault;
     }
@@ -171,10 +181,6 @@ closed_on f (Open w) (Open w') ending reason (Err fault) is i (refuses, draft, h
     each : (e : TryFault) → Refuses e w.seat w'.seat → all_of w' ≡ all_of w → CompletesBy (closed_as reason (Err e)) reason w w'
     each (try.Busy word) finds same = (finds, same)
     each (try.Worn entries) finds same = (finds, same)
-
-    adds : (e : TryFault) → Later (OrCommits IsOthers) (seen_by w) (seen_by w') → Adds (closed_as reason (Err e)) (seen_by w) (seen_by w')
-    adds (try.Busy word) later = later
-    adds (try.Worn entries) later = later
 
     done : (e : TryFault) → false ≡ is_done (closed_as reason (Err e))
     done (try.Busy word) = refl
@@ -193,61 +199,36 @@ pub closed_with : (f : FillingState) (end end' : FillerEnd) (ending : Option Fil
     → ClosedOn f end end' ending reason (closed_as reason result)
 closed_with f end end' ending reason result code coded is i c = closed_on f end end' ending reason result is i (subst (λ (k : ℕ). Closes k end result end') coded c)
 
--- ---- a step that ends the taking, and completes or is refused
+-- ---- a step
 
-added : (step : FillStep) (m k : List Call) → Adds step m k → (more : List Call) × (k ≡ more ++ m)
-added (Done end) m k (found, is, later) = (EndWriter (fill_code end) ∷ later.between, is ∙ ap (λ (l : List Call). EndWriter (fill_code end) ∷ l) later.is)
-added (Moved n) m k later = (later.between, later.is)
-added (Paused n) m k later = (later.between, later.is)
-added (Full full) m k later = (later.between, later.is)
-added (Busy word) m k later = (later.between, later.is)
-added (Worn entries) m k later = (later.between, later.is)
-
-went_before : (options : Options) (draft : List Run) (h m k : List Call) → (more : List Call) × (k ≡ more ++ m) → GoesOn IsOthers options draft h m → GoesOn IsOthers options draft h k
-went_before options draft h m k (more, is) g = record {
-  found = g.found;
-  later = g.later;
-  canceled = g.canceled;
-  replied = g.replied;
-  behind = more ++ g.behind;
-  is = is ∙ ap (λ (l : List Call). more ++ l) g.is ∙ sym (append_assoc more g.behind (Commit draft ∷ g.found));
+-- the taking may end by the part that knows no pipe
+pub ended_filler : (pipe : CellState Name) (old s : FillerState) (before after : SourceState) (f : FillingState) (end : FillerEnd) (ending : Option FillEnd) (reason : FillEnd) → filler_of f end ending ≡ s → IsFiller f end ending → s.end.draft ≡ []
+    → FillsOn HasWritten IsOthers drafting RefusesWriter pipe.name.options (FindsNoRoom pipe) (filling_of old) old.end before (Ok (filled.Ended reason)) (filling_of s) s.end after (seen_by old.end) (all_of old.end) → IsFiller f end (Some reason)
+ended_filler pipe old s before after f end ending reason same i settled fills = record {
+  taken = i.taken;
+  within = i.within;
+  small = i.small;
+  settled = ap (λ (x : FillerState). x.end.draft) same ∙ settled;
+  gone = λ code is.
+      let t = took HasWritten IsOthers drafting RefusesWriter pipe.name.options (FindsNoRoom pipe) (filling_of old) (filling_of s) old.end s.end before after (Ok (filled.Ended reason)) (seen_by old.end) (all_of old.end) fills in
+      let gone = subst (λ (e : FillEnd). EndsFor {F = room.Full} pipe.name.options (Ok (filled.Ended e)) (filling_of s) t.now) (ap (λ (o : Option FillEnd). unwrap_or o reason) is) t.ends in
+      ap (λ (x : FillerState). reader_end (seen_by x.end)) same ∙ ap (λ (h : List Call). reader_end h) (sym t.holds.stands.0 ∙ gone.3) ∙ sym (gone_says pipe.name.options.pause pipe.name.options.resume gone.2 gone.1 gone.0 (Some code) (sym gone.4));
 }
 
-pub steps_on : (options : Options) (old middle new : FillerState) (before after : SourceState) (reason : FillEnd) (step : FillStep) → EndsBy options reason old before middle after → CompletesBy step reason middle.end new.end → Adds step (seen_by middle.end) (seen_by new.end)
-    → new.ending ≡ Some reason → StepsOn options old before step new after
-steps_on options old middle new before after reason step ends completes adds ending = each step completes
-  where
-    lost : Loses old.limit (all_of old.end) old.ending new.ending before ends.taken after
-    lost = subst (λ (o : Option FillEnd). Loses old.limit (all_of old.end) old.ending o before ends.taken after) (ends.ending ∙ sym ending) ends.loses
-
-    on : old.owed ≡ true → (after ≡ before) ⊎ GoesOn IsOthers options old.end.draft (seen_by old.end) (seen_by new.end)
-    on owed = elim (ends.on owed) [
-      | inl same ↦ inl same
-      | inr went ↦ inr (went_before options old.end.draft (seen_by old.end) (seen_by middle.end) (seen_by new.end) (added step (seen_by middle.end) (seen_by new.end) adds) went)
-    ]
-
-    each : (s : FillStep) → CompletesBy s reason middle.end new.end → StepsOn options old before s new after
-    each (Done end) (is, ended, same) = record {
-      taken = ends.taken;
-      all = same ∙ ends.all;
-      loses = lost;
-      on = on;
-      told = (ending ∙ ap (λ (e : FillEnd). Some e) (sym is), subst (λ (e : FillEnd). HasEnded e new.end) (sym is) ended);
-    }
-    each (Busy word) (finds, same) = record {
-      taken = ends.taken;
-      all = same ∙ ends.all;
-      loses = lost;
-      on = on;
-      told = record { found = middle.end; behind = ends.behind; so = finds };
-    }
-    each (Worn entries) (finds, same) = record {
-      taken = ends.taken;
-      all = same ∙ ends.all;
-      loses = lost;
-      on = on;
-      told = record { found = middle.end; behind = ends.behind; so = finds };
-    }
-    each (Moved n) never = absurd never
-    each (Paused n) never = absurd never
-    each (Full full) never = absurd never
+-- where it has ended, the completion stands behind that
+pub steps_on : (pipe : CellState Name) (old middle new : FillerState) (before after : SourceState) (reason : FillEnd) (step : FillStep) (ending : Option FillEnd) → EndsFrom ending pipe reason old before middle after → CompletesBy step reason middle.end new.end → new.ending ≡ Some reason
+    → filling_of new ≡ filling_of middle → StepsFrom ending pipe old before step new after
+steps_on pipe old middle new before after reason step None fills completes ended same = record {
+  answer = Ok (filled.Ended reason);
+  writer = middle.end;
+  fills =
+      subst (λ (f : FillingState). FillsOn HasWritten IsOthers drafting RefusesWriter pipe.name.options (FindsNoRoom pipe) (filling_of old) old.end before (Ok (filled.Ended reason)) f middle.end after (seen_by old.end) (all_of old.end)) (sym same)
+      fills;
+  follows = (ended, completes);
+}
+steps_on pipe old middle new before after reason step (Some was) (is, as_before, unread) completes ended same = (
+  unread,
+  same ∙ ap (λ (f : FillerState). filling_of f) as_before,
+  ended ∙ ap (λ (e : FillEnd). Some e) is,
+  subst (λ (e : FillEnd). CompletesBy step e old.end new.end) is (subst (λ (f : FillerState). CompletesBy step reason f.end new.end) as_before completes),
+)

@@ -16,18 +16,19 @@ use Rattle.relay_engine.specs.Drainer.{end_code}
 use Rattle.relay_engine.specs.Draining.{DrainingState, GainsBy, GainsIf}
 use Rattle.relay_engine.specs.Ending.{is_sink_fault, verdict_for}
 use Rattle.relay_engine.specs.Sides.{Concludes}
+use Rattle.relay_engine.specs.SoFar.{TakenSoFar}
 use Rattle.relay_engine.specs.declared.drain_end.DrainEnd.{DrainEnd}
 use Rattle.relay_engine.specs.declared.draining.Owed.{Owed}
 use Rattle.relay_engine.specs.declared.draining.Progress.TheVariants.{Ended}
 use Rattle.relay_engine.proofs.PipeDrainerLemmas.{adds, as_gains}
-use Rattle.relay_engine.proofs.PumpLemmas.{DrainsLocal, Pumps, TakenSoFar, behind_reader, so_far}
+use Rattle.relay_engine.proofs.PumpLemmas.{DrainsLocal, Pumps, behind_reader, so_far}
 use Rattle.relay_engine.proofs.ReportLemmas.{HoldsOfAll, at_end_is, by_end, of_all, of_front, reported}
 
 -- how the taking ended, where it didn't since the reader went
 abbrev pub taken_as : Option FillEnd → DrainEnd → FillEnd
 taken_as ending end = unwrap_or ending (taking.Gone (end_code end))
 
-run_taken : (job : Job) (x : List ℕ) (ending : Option FillEnd) (code : ℕ) (sb s : SourceState) → TakenSoFar job x ending sb s → IsTaken job.limit x (unwrap_or ending (taking.Gone code)) sb s
+run_taken : (job : Job) (x : List ℕ) (ending : Option FillEnd) (code : ℕ) (sb s : SourceState) → TakenSoFar job.limit x ending sb s → IsTaken job.limit x (unwrap_or ending (taking.Gone code)) sb s
 run_taken job x None code sb s taken = record {
   dropped = [];
   dropping = refl;

@@ -1,8 +1,8 @@
 -- A fill step of a relay whose pipe rests.
 use Rattle.std.specs.List.{AllByRecursion}
-use Rattle.std.proofs.Common.{◌≡◌, ◌≢◌, ◌<◌, ◌≤◌, ◌+◌, ◌-◌, ◌*◌, ◌^◌, ℕ, Bool, true, false, cond, if◌then◌else◌, nat_lt, List, [], ◌∷◌, ◌++◌, length, drop, Option, Some, None, Ok, refl, sym, ap, ◌∙◌, subst, append-nil, arith, ◌⊎◌}
+use Rattle.std.proofs.Common.{◌≡◌, ◌≢◌, ◌<◌, ◌≤◌, ◌+◌, ◌-◌, ◌*◌, ◌^◌, ◌==◌, ℕ, Bool, true, false, cond, if◌then◌else◌, nat_lt, List, [], ◌∷◌, ◌++◌, length, drop, Option, Some, None, Result, Ok, Err, inl, inr, refl, sym, ap, ◌∙◌, subst, append-nil, arith, ◌⊎◌}
 use Rattle.std.specs.Prelude.{is_none, option_map, unwrap_or}
-use Rattle.std.proofs.KnownBytes.{Consumes-trans, Consumes-kept}
+use Rattle.std.proofs.KnownBytes.{Consumes-trans}
 use Rattle.std.proofs.lemmas.List.{length-append, take_all}
 use Rattle.edge_core.specs.Device.{SourceState, SinkState, Gives}
 use Rattle.frame_grammar.specs.declared.job.Job.{Job}
@@ -22,11 +22,13 @@ use Rattle.pipe_core.specs.Standing.{AreThresholds}
 use Rattle.pipe_core.proofs.OrderLemmas.{ordered, total_commit}
 use Rattle.pipe_shared.specs.declared.options.Options.{Options}
 use Rattle.pipe_shared.specs.declared.faults.Full as room
+use Rattle.pipe_shared.specs.declared.faults.TryFault.{TryFault}
 use Rattle.pipe_core.specs.Answers.{Woke}
 use Rattle.pipe_shared.specs.Options.{room_of}
 use Rattle.pipe_shared.specs.Local.{IsFull, Local, LocalAnswers}
 use Rattle.relay_engine.specs.Filler.{written, fill_code}
-use Rattle.relay_engine.specs.Filling.{FillingState, FillsOn, HasTaken, OrCommits, Replied}
+use Rattle.relay_engine.specs.Filling.{FillingState, FillsOn, HasTaken, TakesBy}
+use Rattle.relay_engine.specs.SoFar.{TakenSoFar}
 use Rattle.relay_engine.specs.WriterEnds.{IsLocalFull, local_drafting}
 use Rattle.relay_engine.specs.LocalEnds.{HoldsLocal, NoOthers, RefusesNone}
 use Rattle.relay_engine.specs.Drainer.{DrainState, looked_at}
@@ -34,8 +36,10 @@ use Rattle.relay_engine.specs.Draining.{DrainingState}
 use Rattle.relay_engine.specs.Pump.{EndsBy, FillsLocal}
 use Rattle.relay_engine.specs.declared.filling.Filled.{Filled}
 use Rattle.relay_engine.specs.declared.filling.Filled.TheVariants.{Moved, Paused, Full, Ended}
+use Rattle.relay_engine.proofs.FillingLemmas.{EndsFor, OrCommits, Took, took}
+use Rattle.relay_engine.proofs.FillSideLemmas.{taken_on}
 use Rattle.relay_engine.proofs.LendLemmas.{behind_commit}
-use Rattle.relay_engine.proofs.PumpLemmas.{AtRest, Goes, Pumps, TakenSoFar, fuel, gone_says, later_same, none_left}
+use Rattle.relay_engine.proofs.PumpLemmas.{AtRest, Goes, Pumps, fuel, gone_says, later_same, none_left}
 
 -- ---- what the writer's calls leave to the reader
 
@@ -87,9 +91,9 @@ record Committed (d : DrainState) (h now : List Call) (text bytes : List ℕ) (m
   asked : Asked d h now text
   all : total now ≡ bytes
 
--- A fill step, of which the filler's part and the pipe behind it are told.
+-- What a fill step has taken.
 abbrev pub Once : FillingState → Local → SourceState → Filled room.Full → FillingState → Local → SourceState → List Call → List ℕ → Type 0
-Once f p before filled f' middle after h bytes = FillsOn HoldsLocal NoOthers local_drafting RefusesNone p.options (IsLocalFull tt) f p before (Ok filled) f' middle after h bytes
+Once f p before filled f' middle after h bytes = Took HoldsLocal NoOthers local_drafting RefusesNone p.options (IsLocalFull tt) (Ok filled) f p before f' middle after h bytes
 
 pub rest_taken : (job : Job) (sb s : SourceState) (kb k : SinkState) (f : FillingState) (d : DrainingState) (p : Local) (ending : Option FillEnd) → (rest : AtRest job sb s kb k f d p ending) → HasTaken HoldsLocal local_drafting f p rest.on.h (total rest.on.h)
 rest_taken job sb s kb k f d p ending rest = let on = rest.on in record {
@@ -135,7 +139,7 @@ took_bytes job sb s s' kb k f f' d p middle ending filled rest once keeps given 
     let c = committed job sb s s' kb k f f' d p middle ending filled rest once keeps.draft in
     let counted : f'.taken ≡ length (total once.now) = once.holds.counted ∙ sym (ap length c.all) in
     let size : f'.taken ≡ f.taken + length once.taken = once.holds.counted ∙ length-append (total h) once.taken ∙ ap (λ (n : ℕ). n + length once.taken) (sym on.counted) in
-    let taken = subst (λ (o : Option FillEnd). TakenSoFar job (total h) o sb s) rest.none_yet on.taken in
+    let taken = subst (λ (o : Option FillEnd). TakenSoFar job.limit (total h) o sb s) rest.none_yet on.taken in
     record {
       on = record {
         h = once.now;
@@ -167,7 +171,7 @@ took_bytes job sb s s' kb k f f' d p middle ending filled rest once keeps given 
 
 -- no byte was taken, and the writer has completed
 took_end : (job : Job) (sb s s' : SourceState) (kb k : SinkState) (f f' : FillingState) (d : DrainingState) (p middle p' : Local) (ending : Option FillEnd) (filled : Filled room.Full) (end : FillEnd) (wake : Wake) → (rest : AtRest job sb s kb k f d p ending) → (once : Once f p s filled f' middle s' rest.on.h (total rest.on.h)) → middle.pipe.bytes.draft ≡ []
-    → Keeps f p f' p' → LocalAnswers middle (EndWriter (fill_code end) ∷ []) (Woke wake) p' → once.taken ≡ [] → ((code : ℕ) → end ≢ taking.Gone code) → TakenSoFar job (total rest.on.h) (Some end) sb s'
+    → Keeps f p f' p' → LocalAnswers middle (EndWriter (fill_code end) ∷ []) (Woke wake) p' → once.taken ≡ [] → ((code : ℕ) → end ≢ taking.Gone code) → TakenSoFar job.limit (total rest.on.h ++ once.taken) (Some end) sb s'
     → StepFilled job sb s' kb k f f' d p' (Some end)
 took_end job sb s s' kb k f f' d p middle p' ending filled end wake rest once settled keeps completes none not_gone taken =
     let on = rest.on in
@@ -184,7 +188,7 @@ took_end job sb s s' kb k f f' d p middle p' ending filled end wake rest once se
         holds = holds;
         goes = goes_end d.drained once.now on.text (fill_code end) c.asked.goes;
         fresh = on.fresh;
-        taken = subst (λ (x : List ℕ). TakenSoFar job x (Some end) sb s') (sym all) taken;
+        taken = subst (λ (x : List ℕ). TakenSoFar job.limit x (Some end) sb s') (sym c.all) taken;
         counted = counted;
         drafted = once.holds.drafted ∙ ap (λ (x : List ℕ). length (bytes_of (run_in 0 x))) settled;
         limit = keeps.limit ∙ on.limit;
@@ -211,16 +215,25 @@ abbrev pub NeverBoth : Type 0
 NeverBoth = (pause resume : ℕ) (h : List Call) (examined held : ℕ) → (pause ≡ 0) ⊎ (1 ≤ resume) × (resume ≤ pause) → IsLegal h →
     reply_to_read h ≡ read.Pending examined → reply_to_commit pause resume h [] ≡ flush.Pending held → ⊥
 
--- a pipe that rests doesn't hold the writer, so bytes were taken where it does
-some_taken : (job : Job) (sb s : SourceState) (kb k : SinkState) (f : FillingState) (d : DrainingState) (p : Local) (ending : Option FillEnd) (n : ℕ) (taken : List ℕ) (now : List Call) → NeverBoth → (rest : AtRest job sb s kb k f d p ending)
-    → Replied NoOthers p.options (flush.Pending n) f.owed (run_in 0 p.pipe.bytes.draft) rest.on.h taken now → 0 < length taken
-some_taken job sb s kb k f d p ending n [] now law rest replied =
-    let first = replied.first refl in
-    let found = later_same rest.on.h replied.found first.1 in
-    let runs : replied.runs ≡ [] = first.2 ∙ ap (run_in 0) rest.on.draft in
-    absurd (law p.options.pause p.options.resume rest.on.h (examined rest.on.h) n rest.on.thresholds.1 rest.on.holds.marks.legal rest.waits
-    (sym (ap (λ (x : List Call). reply_to_commit p.options.pause p.options.resume x []) found) ∙ sym (ap (λ (r : List Run). reply_to_commit p.options.pause p.options.resume replied.found r) runs) ∙ sym replied.replied))
-some_taken job sb s kb k f d p ending n (b ∷ bytes) now law rest replied = omega arith
+-- a pipe that rests has no bytes drafted, and doesn't hold the writer, so bytes were taken
+moved_some : (job : Job) (sb s s' : SourceState) (kb k : SinkState) (f f' : FillingState) (d : DrainingState) (p p' : Local) (ending : Option FillEnd) (n : ℕ) → (rest : AtRest job sb s kb k f d p ending) → (once : Once f p s (Moved n) f' p' s' rest.on.h (total rest.on.h)) → 0 < length once.taken
+moved_some job sb s s' kb k f f' d p p' ending n rest once = elim once.read [
+  | inl owed ↦
+      let none : n ≡ 0 = omega (arith, owed.settles.0, ap (λ (x : List ℕ). length (bytes_of (run_in 0 x))) rest.on.draft) in
+      let told : (0 == 0) ≡ false = subst (λ (m : ℕ). (m == 0) ≡ false) none owed.told in
+      absurd cc
+  | inr some ↦ some refl
+]
+
+paused_some : (job : Job) (sb s s' : SourceState) (kb k : SinkState) (f f' : FillingState) (d : DrainingState) (p p' : Local) (ending : Option FillEnd) (n : ℕ) → NeverBoth → (rest : AtRest job sb s kb k f d p ending) → (once : Once f p s (Paused n) f' p' s' rest.on.h (total rest.on.h)) → 0 < length once.taken
+paused_some job sb s s' kb k f f' d p p' ending n law rest once = elim once.read [
+  | inl owed ↦
+      let c = owed.settles in
+      let found = later_same rest.on.h c.found c.later in
+      absurd (law p.options.pause p.options.resume rest.on.h (examined rest.on.h) n rest.on.thresholds.1 rest.on.holds.marks.legal rest.waits
+      (sym (ap (λ (x : List Call). reply_to_commit p.options.pause p.options.resume x []) found) ∙ sym (ap (λ (x : List ℕ). reply_to_commit p.options.pause p.options.resume c.found (run_in 0 x)) rest.on.draft) ∙ sym c.replied))
+  | inr some ↦ some refl
+]
 
 -- nor is it full
 never_full : (job : Job) (sb s s' : SourceState) (kb k : SinkState) (f f' : FillingState) (d : DrainingState) (p middle : Local) (ending : Option FillEnd) (filled : Filled room.Full) (told : room.Full) → (rest : AtRest job sb s kb k f d p ending) → (once : Once f p s filled f' middle s' rest.on.h (total rest.on.h)) → Keeps f p f' middle → once.taken ≡ []
@@ -241,17 +254,42 @@ never_full job sb s s' kb k f f' d p middle ending filled told rest once keeps n
     longest_same d job is = ap (λ (j : Job). longest_frame j.input j.max) is
 
 -- nor is the reader gone
-never_gone : (d : DrainState) (text : List ℕ) (options : Options) (owed : Bool) (draft : List Run) (h : List Call) (taken : List ℕ) (now : List Call) (canceled : Bool) (code : ℕ) → Goes d now text → Replied NoOthers options (flush.Ready canceled (Some code)) owed draft h taken now → ⊥
-never_gone d text options owed draft h taken now canceled code goes replied =
-    let said = gone_says options.pause options.resume replied.found replied.runs canceled (Some code) (sym replied.replied) in
-    let attended : reader_end replied.found ≡ None = sym (ap (λ (x : List Call). reader_end x) replied.last) ∙ goes.attended in
+never_gone : (d : DrainState) (text : List ℕ) (options : Options) (f : FillingState) (now : List Call) (code : ℕ) → Goes d now text → EndsFor {F = room.Full} options (Ok (Ended (taking.Gone code))) f now → ⊥
+never_gone d text options f now code goes (canceled, runs, found, last, replied) =
+    let said = gone_says options.pause options.resume found runs canceled (Some code) (sym replied) in
+    let attended : reader_end found ≡ None = sym (ap (λ (x : List Call). reader_end x) last) ∙ goes.attended in
     let same = said ∙ attended in absurd cc
+
+-- nor is a call refused
+pub none_refused : (options : Options) (f f' : FillingState) (p p' : Local) (s s' : SourceState) (fault : TryFault) (h : List Call) (bytes : List ℕ) → FillsOn HoldsLocal NoOthers local_drafting RefusesNone options (IsLocalFull tt) f p s (Err fault) f' p' s' h bytes → ⊥
+none_refused options f f' p p' s s' fault h bytes fills = elim fills [
+  | inl once ↦ takes f p h once.1
+  | inr other ↦ elim other [
+    | inl owed ↦ owed.settles.0
+    | inr behind ↦ takes behind.settled behind.writer_then (Commit (local_drafting p).draft ∷ behind.commits.found) behind.takes
+  ]
+]
+  where
+    takes : (f1 : FillingState) (p1 : Local) (k : List Call) → TakesBy HoldsLocal NoOthers local_drafting RefusesNone options (IsLocalFull tt) (Err fault) f1 p1 s f' p' s' k bytes → ⊥
+    takes f1 p1 k (inl room) = room.0
+    takes f1 p1 k (inr r) = r.settles.0
+
+-- what a full pipe tells is so
+full_of : (options : Options) (f f' : FillingState) (p p' : Local) (s s' : SourceState) (told : room.Full) (h : List Call) (bytes : List ℕ) → FillsOn HoldsLocal NoOthers local_drafting RefusesNone options (IsLocalFull tt) f p s (Ok (Full told)) f' p' s' h bytes → IsFull 1 told p'
+full_of options f f' p p' s s' told h bytes fills = elim fills [
+  | inl once ↦ subst (λ (x : Local). IsFull 1 told x) (sym once.1.0.1) once.1.0.0
+  | inr other ↦ elim other [
+    | inl owed ↦ absurd owed.settles
+    | inr behind ↦ subst (λ (x : Local). IsFull 1 told x) (sym behind.takes.0.1) behind.takes.0.0
+  ]
+]
 
 -- ---- all of them
 
 pub filled : (job : Job) (sb s s' : SourceState) (kb k : SinkState) (f f' : FillingState) (d : DrainingState) (p p' : Local) (ending result : Option FillEnd) → NeverBoth → (rest : AtRest job sb s kb k f d p ending) → FillsLocal f p s result f' p' s' rest.on.h (total rest.on.h) → Keeps f p f' p'
     → StepFilled job sb s' kb k f f' d p' result
-filled job sb s s' kb k f f' d p p' ending result law rest fills keeps = by_step fills.filled fills.middle fills.once fills.settled fills.ends
+filled job sb s s' kb k f f' d p p' ending result law rest fills keeps =
+    by_step fills.filled fills.middle fills.once (took HoldsLocal NoOthers local_drafting RefusesNone p.options (IsLocalFull tt) f f' p fills.middle s s' (Ok fills.filled) rest.on.h (total rest.on.h) fills.once) fills.settled fills.ends
   where
     stays : (middle : Local) → p' ≡ middle → Keeps f p f' middle
     stays middle same = subst (λ (x : Local). Keeps f p f' x) same keeps
@@ -262,54 +300,29 @@ filled job sb s s' kb k f f' d p p' ending result law rest fills keeps = by_step
     at_end : (end : FillEnd) → result ≡ Some end → StepFilled job sb s' kb k f f' d p' (Some end) → StepFilled job sb s' kb k f f' d p' result
     at_end end some so = subst (λ (o : Option FillEnd). StepFilled job sb s' kb k f f' d p' o) (sym some) so
 
-    taken : TakenSoFar job (total rest.on.h) None sb s
-    taken = subst (λ (o : Option FillEnd). TakenSoFar job (total rest.on.h) o sb s) rest.none_yet rest.on.taken
+    taken : TakenSoFar job.limit (total rest.on.h) None sb s
+    taken = subst (λ (o : Option FillEnd). TakenSoFar job.limit (total rest.on.h) o sb s) rest.none_yet rest.on.taken
 
-    by_step : (filled : Filled room.Full) (middle : Local) → (once : Once f p s filled f' middle s' rest.on.h (total rest.on.h)) → middle.pipe.bytes.draft ≡ [] → EndsBy filled middle result p' → StepFilled job sb s' kb k f f' d p' result
-    by_step (Moved n) middle once settled ends =
-        let some : 0 < length once.taken = omega (arith, once.cause.0, once.cause.1, ap (λ (x : List ℕ). length (bytes_of (run_in 0 x))) rest.on.draft) in
-        more middle ends.0 ends.1 (took_bytes job sb s s' kb k f f' d p middle ending (Moved n) rest once (stays middle ends.1) once.loses some)
-    by_step (Paused n) middle once settled ends =
-        more middle ends.0 ends.1 (took_bytes job sb s s' kb k f f' d p middle ending (Paused n) rest once (stays middle ends.1) once.loses (some_taken job sb s kb k f d p ending n once.taken once.now law rest once.cause))
-    by_step (Full told) middle once settled ends =
-        let full = once.cause.so in
-        absurd (never_full job sb s s' kb k f f' d p middle ending (Full told) told rest once (stays middle ends.1) once.loses.0 (subst (λ (x : Local). IsFull 1 told x) (sym full.1) full.0))
-    by_step (Ended taking.End) middle once settled ends =
-        at_end taking.End ends.0 (took_end job sb s s' kb k f f' d p middle p' ending (Ended taking.End) taking.End ends.1.0 rest once settled keeps ends.1.1 once.loses.0 (λ code is. absurd cc) (record {
-          dropped = [];
-          dropping = refl;
-          given = Consumes-trans _ _ _ _ _ taken.0.given once.loses.1.given;
-          within = taken.1;
-          end = λ is. once.loses.2;
-          long = λ is. absurd cc;
-          fault = λ is. absurd cc;
-          unfailed = λ is. once.loses.1.unfailed ∙ taken.0.unfailed;
-        }))
-    by_step (Ended taking.Fault) middle once settled ends =
-        at_end taking.Fault ends.0 (took_end job sb s s' kb k f f' d p middle p' ending (Ended taking.Fault) taking.Fault ends.1.0 rest once settled keeps ends.1.1 once.loses.0 (λ code is. absurd cc) (record {
-          dropped = [];
-          dropping = refl;
-          given = rw (append-nil (total rest.on.h)) (Consumes-kept sb.left s.left s'.left (total rest.on.h) taken.0.given once.loses.1.kept);
-          within = taken.1;
-          end = λ is. absurd cc;
-          long = λ is. absurd cc;
-          fault = λ is. rw (← taken.0.unfailed) once.loses.1.risen;
-          unfailed = λ other. absurd (other refl);
-        }))
-    by_step (Ended taking.Long) middle once settled ends =
-        at_end taking.Long ends.0 (took_end job sb s s' kb k f f' d p middle p' ending (Ended taking.Long) taking.Long ends.1.0 rest once settled keeps ends.1.1 once.loses.0 (λ code is. absurd cc) (record {
-          dropped = once.loses.1.dropped;
-          dropping = once.loses.1.one;
-          given = Consumes-trans _ _ _ _ _ taken.0.given once.loses.1.given.given;
-          within = taken.1;
-          end = λ is. absurd cc;
-          long = λ is. sym rest.on.counted ∙ once.cause ∙ rest.on.limit;
-          fault = λ is. absurd cc;
-          unfailed = λ is. once.loses.1.given.unfailed ∙ taken.0.unfailed;
-        }))
-    by_step (Ended (taking.Gone code)) middle once settled ends =
+    -- the taking has ended, for this reason
+    ended : (end : FillEnd) (middle : Local) → (once : Once f p s (Ended end) f' middle s' rest.on.h (total rest.on.h)) → middle.pipe.bytes.draft ≡ [] → EndsBy (Ended end) middle result p' → once.taken ≡ [] → ((code : ℕ) → end ≢ taking.Gone code) → StepFilled job sb s' kb k f f' d p' result
+    ended end middle once settled ends none not_gone =
+        let len : f'.taken ≡ length (total rest.on.h ++ once.taken) = once.holds.counted in
+        at_end end ends.0 (took_end job sb s s' kb k f f' d p middle p' ending (Ended end) end ends.1.0 rest once settled keeps ends.1.1 none not_gone
+        (taken_on job.limit (total rest.on.h) once.taken (Ok (Ended end)) sb s s' (omega (arith, len, keeps.within, keeps.limit, rest.on.limit))
+        (λ is. let at_limit : f'.taken ≡ f'.limit = subst (λ (a : Result (Filled room.Full) TryFault). EndsFor p.options a f' once.now) is once.ends in omega (arith, len, at_limit, keeps.limit, rest.on.limit)) taken once.loses))
+
+    by_step : (filled : Filled room.Full) (middle : Local) → FillsOn HoldsLocal NoOthers local_drafting RefusesNone p.options (IsLocalFull tt) f p s (Ok filled) f' middle s' rest.on.h (total rest.on.h) → (once : Once f p s filled f' middle s' rest.on.h (total rest.on.h)) → middle.pipe.bytes.draft ≡ [] → EndsBy filled middle result p' → StepFilled job sb s' kb k f f' d p' result
+    by_step (Moved n) middle fills once settled ends =
+        more middle ends.0 ends.1 (took_bytes job sb s s' kb k f f' d p middle ending (Moved n) rest once (stays middle ends.1) once.loses (moved_some job sb s s' kb k f f' d p middle ending n rest once))
+    by_step (Paused n) middle fills once settled ends =
+        more middle ends.0 ends.1 (took_bytes job sb s s' kb k f f' d p middle ending (Paused n) rest once (stays middle ends.1) once.loses (paused_some job sb s s' kb k f f' d p middle ending n law rest once))
+    by_step (Full told) middle fills once settled ends = absurd (never_full job sb s s' kb k f f' d p middle ending (Full told) told rest once (stays middle ends.1) once.loses.0 (full_of p.options f f' p middle s s' told rest.on.h (total rest.on.h) fills))
+    by_step (Ended taking.End) middle fills once settled ends = ended taking.End middle once settled ends once.loses.0 (λ code is. absurd cc)
+    by_step (Ended taking.Fault) middle fills once settled ends = ended taking.Fault middle once settled ends once.loses.0 (λ code is. absurd cc)
+    by_step (Ended taking.Long) middle fills once settled ends = ended taking.Long middle once settled ends once.loses.0 (λ code is. absurd cc)
+    by_step (Ended (taking.Gone code)) middle fills once settled ends =
         let c = committed job sb s s' kb k f f' d p middle ending (Ended (taking.Gone code)) rest once settled in
-        absurd (never_gone d.drained rest.on.text p.options f.owed (run_in 0 p.pipe.bytes.draft) rest.on.h once.taken once.now once.cause.0 code c.asked.goes once.cause.1)
+        absurd (never_gone d.drained rest.on.text p.options f' once.now code c.asked.goes once.ends)
 
 pub small_total : (p : Local) (h : List Call) → HoldsFor p.pipe h → p.pipe.control.committed ≤ 2 ^ 62
 small_total p h holds = omega (arith, holds.marks.committed, (ordered h holds.marks.legal).total_in)

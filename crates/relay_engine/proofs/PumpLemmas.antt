@@ -3,7 +3,7 @@ use Rattle.std.specs.List.{AllByRecursion}
 use Rattle.std.proofs.Common.{◌≡◌, ◌≢◌, ◌<◌, ◌≤◌, ◌+◌, ◌-◌, ◌*◌, ◌⊎◌, inl, inr, ℕ, Bool, true, false, cond, if◌then◌else◌, nat_lt, List, [], ◌∷◌, ◌++◌, length, Option, Some, None, IsNone, Ok, Err, refl, sym, ap, ◌∙◌, subst, append-nil, arith}
 use Rattle.std.specs.Prelude.{is_none, is_some, option_map, unwrap_or, ◌||◌}
 use Rattle.std.proofs.KnownBytes.{Consumes-nil}
-use Rattle.edge_core.specs.Device.{SourceState, SinkState, Gives, Takes}
+use Rattle.edge_core.specs.Device.{SourceState, SinkState, Takes}
 use Rattle.edge_core.proofs.DeviceLemmas.{Takes-trans}
 use Rattle.frame_grammar.specs.declared.job.Job.{Job}
 use Rattle.relay_model.specs.declared.ending.FillEnd.{FillEnd}
@@ -14,8 +14,7 @@ use Rattle.frame_model.specs.Spelling.{longest_frame}
 use Rattle.frame_model.specs.Cut.{Open, cut}
 use Rattle.frame_model.specs.Translation.{translation_of}
 use Rattle.frame_model.proofs.FrontLemmas.{front_empty}
-use Rattle.relay_model.specs.Run.{IsTaken}
-use Rattle.pipe_core.specs.History.{Call, Run, Commit, EndWriter, Read, Advance, EndReader, CancelRead, CancelFlush, writer_end, reader_end, seat_of}
+use Rattle.pipe_core.specs.History.{Call, Run, Commit, EndWriter, Read, Advance, EndReader, CancelRead, CancelFlush, writer_end, reader_end}
 use Rattle.pipe_core.specs.Progress.{total, examined, unexamined, held, canceled_read, canceled_flush}
 use Rattle.pipe_core.specs.Reads.{read_is_ready, reply_to_read}
 use Rattle.pipe_core.specs.declared.reply.ReadReply.TheVariants as read
@@ -32,9 +31,10 @@ use Rattle.relay_engine.specs.Filler.{written, fill_code}
 use Rattle.relay_engine.specs.Filling.{FillingState}
 use Rattle.relay_engine.specs.Later.{Later}
 use Rattle.relay_engine.specs.Drainer.{DrainState, IsDrained}
-use Rattle.relay_engine.specs.ReaderEnds.{Aside, aside_local, lent_local, no_exchanges}
+use Rattle.relay_engine.specs.ReaderEnds.{Aside, aside_local, lent_local, local_tally}
 use Rattle.relay_engine.specs.LocalEnds.{HoldsLocal, NoOthers, RefusesNone}
 use Rattle.relay_engine.specs.Draining.{DrainingState, DrainsOnce, GainsBy, HasPassed, MovesBy, OrReaders, Stands, lent_for}
+use Rattle.relay_engine.specs.SoFar.{TakenSoFar}
 use Rattle.relay_engine.specs.declared.draining.Owed.{Owed}
 use Rattle.relay_engine.specs.declared.draining.Progress.{Progress}
 use Rattle.relay_engine.specs.declared.draining.Progress.TheVariants.{Moved, Idle}
@@ -51,18 +51,13 @@ pub record Goes (d : DrainState) (h : List Call) (text : List ℕ) : Type 0 wher
   pub no_lend : lend h ≡ None
   pub uncanceled : canceled_read h ≡ false
 
--- what was taken, while more is, and how the taking ended
-abbrev pub TakenSoFar : Job → List ℕ → Option FillEnd → SourceState → SourceState → Type 0
-TakenSoFar job x None before after = Gives before x after × (length x ≤ job.limit)
-TakenSoFar job x (Some end) before after = IsTaken job.limit x end before after
-
 pub record Pumps (job : Job) (source_before source_now : SourceState) (sink_before sink_now : SinkState) (f : FillingState) (d : DrainingState) (p : Local) (ending : Option FillEnd) : Type 0 where
   pub h : List Call
   pub text : List ℕ
   pub holds : HoldsFor p.pipe h
   pub goes : Goes d.drained h text
   pub fresh : d.owed ≡ None
-  pub taken : TakenSoFar job (total h) ending source_before source_now
+  pub taken : TakenSoFar job.limit (total h) ending source_before source_now
   pub counted : f.taken ≡ length (total h)
   pub drafted : f.drafted ≡ 0
   pub limit : f.limit ≡ job.limit
@@ -80,7 +75,7 @@ fuel f p ending = 2 * (f.limit - f.taken) + (if is_none ending then 1 else 0) + 
 
 -- A step of the drainer.
 abbrev pub DrainsLocal : DrainingState → Local → SinkState → Progress → DrainingState → Local → SinkState → Type 0
-DrainsLocal d p before progress d' p' after = DrainsOnce HoldsLocal NoOthers RefusesNone no_exchanges lent_local aside_local d p before (Ok progress) d' p' after
+DrainsLocal d p before progress d' p' after = DrainsOnce HoldsLocal NoOthers RefusesNone local_tally lent_local aside_local d p before (Ok progress) d' p' after
 
 -- ---- the start
 
@@ -258,7 +253,7 @@ moved_on job sb s kb k k' f d d' p p' ending frames gone on once =
         uncanceled = so.same.uncanceled on.goes.uncanceled;
       };
       fresh = a.how.1;
-      taken = subst (λ (x : List ℕ). TakenSoFar job x ending sb s) (sym so.same.total_is) on.taken;
+      taken = subst (λ (x : List ℕ). TakenSoFar job.limit x ending sb s) (sym so.same.total_is) on.taken;
       counted = on.counted ∙ sym (ap length so.same.total_is);
       drafted = on.drafted;
       limit = on.limit;
@@ -354,7 +349,7 @@ rest_less f p None left none less = omega (arith, less)
 rest_less f p (Some end) left none less = absurd cc
 
 -- a read was not refused
-pub never_refused : (job : Job) (sb s : SourceState) (kb k k' : SinkState) (f : FillingState) (d d' : DrainingState) (p p' : Local) (ending : Option FillEnd) (fault : TryFault) → Pumps job sb s kb k f d p ending → DrainsOnce HoldsLocal NoOthers RefusesNone no_exchanges lent_local aside_local d p k (Err fault) d' p' k' → ⊥
+pub never_refused : (job : Job) (sb s : SourceState) (kb k k' : SinkState) (f : FillingState) (d d' : DrainingState) (p p' : Local) (ending : Option FillEnd) (fault : TryFault) → Pumps job sb s kb k f d p ending → DrainsOnce HoldsLocal NoOthers RefusesNone local_tally lent_local aside_local d p k (Err fault) d' p' k' → ⊥
 never_refused job sb s kb k k' f d d' p p' ending fault on once = (once.cause on.h on.text on.holds (so_far d on.h on.text on.fresh on.goes.drained)).how.1.refused
 
 -- where the next step of the drainer may come

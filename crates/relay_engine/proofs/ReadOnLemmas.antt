@@ -1,7 +1,7 @@
 -- One read of a drainer, and what became of the frames that it lent.
 use Rattle.std.specs.List.{AllByRecursion}
-use Rattle.std.proofs.Common.{◌≡◌, ◌≢◌, ◌≤◌, ◌+◌, ◌-◌, ◌⊎◌, inl, inr, ℕ, Bool, true, false, List, [], ◌∷◌, ◌++◌, length, drop, Option, Some, None, IsSomeAnd, Result, Ok, Err, refl, sym, ap, ◌∙◌, subst, append-nil, append_assoc, arith}
-use Rattle.std.specs.Prelude.{max}
+use Rattle.std.proofs.Common.{◌≡◌, ◌≢◌, ◌≤◌, ◌+◌, ◌-◌, inl, inr, ℕ, Bool, true, false, List, [], ◌∷◌, ◌++◌, length, drop, Option, Some, None, IsSomeAnd, Result, Ok, Err, refl, sym, ap, ◌∙◌, subst, append-nil, arith}
+use Rattle.std.specs.Prelude.{max, IfOk}
 use Rattle.std.specs.Io.KnownBytes.{Appends}
 use Rattle.std.proofs.KnownBytes.{Appends-trans}
 use Rattle.edge_core.specs.Device.{SinkState, Takes}
@@ -21,10 +21,11 @@ use Rattle.pipe_core.proofs.OrderLemmas.{ordered}
 use Rattle.pipe_shared.specs.declared.faults.TryFault.{TryFault}
 use Rattle.relay_engine.specs.Frames.{Drains, Passes, verdict_of}
 use Rattle.relay_engine.specs.Later.{CallsLater, HearsLater, Later}
-use Rattle.relay_engine.specs.Drainer.{DrainState, IsDrained, is_success}
+use Rattle.relay_engine.specs.Drainer.{DrainState, IsDrained, is_success, is_whole}
 use Rattle.relay_engine.specs.Passing.{added, end_at}
 use Rattle.relay_engine.specs.Ending.{is_sink_fault, verdict_for}
 use Rattle.relay_engine.specs.Sides.{Concludes, IsEndedFor}
+use Rattle.relay_engine.specs.Tally.{Spends, Tally}
 use Rattle.relay_engine.specs.Draining.{AdvancesBy, AdvancesTo, DrainingState, DrainsOnce, EndsOwed, GainsBy, GainsIf, HasPassed, IfMore, IsAdvanced, IsWithin, MovesBy, OrReaders, Owes, PassesLend, Stands, StandsBehind, StepsBy, has_failed, is_fault, lent_for, owes_fault}
 use Rattle.relay_engine.specs.declared.frames.Stop.{Stop}
 use Rattle.relay_engine.specs.declared.frames.Stop.TheVariants as stops
@@ -64,29 +65,34 @@ no_fault_at stops.End ended place end at = sym (ap (λ (e : DrainEnd). is_sink_f
 no_fault_at stops.More (Some code) place end at = sym (ap (λ (e : DrainEnd). is_sink_fault e) (some_is ends.Stopped end at))
 no_fault_at stops.More None place end at = absurd cc
 
+-- where an advance passes them
+passed_at : (d : DrainState) (h : List Call) (text gain : List ℕ) (n i w r c e : ℕ) (stop : Stop) → c ≡ n → IsDrained d h text → EndFacts d h text gain n i w r stop → Passes d.job (total h) (is_whole h) (consumed (Advance c e ∷ Read ∷ h)) (added d n i w r).frames (text ++ gain)
+passed_at d h text gain n i w r c e stop same drained facts =
+    subst (λ (k : ℕ). Passes d.job (total h) (is_whole h) k (added d n i w r).frames (text ++ gain)) (omega (arith, facts.place, drained.place, same)) facts.passes
+
 -- all that is to be written was
-concludes_well : (d : DrainState) (h : List Call) (text gain : List ℕ) (n i w r : ℕ) (stop : Stop) (end : DrainEnd) → EndFacts d h text gain n i w r stop → EndsAs (writer_end h) (added d n i w r).place stop end
-    → Concludes d.job (added d n i w r).frames (added d n i w r).written h (text ++ gain) end
-concludes_well d h text gain n i w r stop end facts so = record {
+concludes_well : (d : DrainState) (h : List Call) (text gain : List ℕ) (n i w r c e : ℕ) (stop : Stop) (end : DrainEnd) → c ≡ n → IsDrained d h text → EndFacts d h text gain n i w r stop → EndsAs (writer_end h) (added d n i w r).place stop end
+    → Concludes d.job (added d n i w r).frames (added d n i w r).written (Advance c e ∷ Read ∷ h) (text ++ gain) end
+concludes_well d h text gain n i w r c e stop end same drained facts so = record {
   front = ([], append-nil (text ++ gain) ∙ sym (ap (λ t. t.text) facts.said));
   whole = λ passed. sym (ap (λ t. t.text) facts.said);
   verdict = λ passed. ap (λ t. t.verdict) facts.said ∙ so.verdict;
   ended = so.ended_for;
+  passed = λ passed. passed_at d h text gain n i w r c e stop same drained facts;
   frames_told = facts.frames;
   written_told = facts.written;
-  bounded = omega (arith, facts.passes.bounded, facts.passes.within);
 }
 
 -- and the flush behind it failed
-concludes_unflushed : (d : DrainState) (h : List Call) (text gain : List ℕ) (n i w r : ℕ) (stop : Stop) → EndFacts d h text gain n i w r stop → Concludes d.job (added d n i w r).frames (added d n i w r).written h (text ++ gain) ends.SinkFault
-concludes_unflushed d h text gain n i w r stop facts = record {
+concludes_unflushed : (d : DrainState) (h : List Call) (text gain : List ℕ) (n i w r c e : ℕ) (stop : Stop) → EndFacts d h text gain n i w r stop → Concludes d.job (added d n i w r).frames (added d n i w r).written (Advance c e ∷ Read ∷ h) (text ++ gain) ends.SinkFault
+concludes_unflushed d h text gain n i w r c e stop facts = record {
   front = ([], append-nil (text ++ gain) ∙ sym (ap (λ t. t.text) facts.said));
   whole = λ passed. absurd cc;
   verdict = λ passed. absurd cc;
   ended = tt;
+  passed = λ passed. absurd cc;
   frames_told = facts.frames;
   written_told = facts.written;
-  bounded = omega (arith, facts.passes.bounded, facts.passes.within);
 }
 
 -- ---- what is owed of a lend
@@ -107,15 +113,8 @@ all_wrote : (d d1 : DrainState) (found : List Call) (text : List ℕ) (ended : O
 all_wrote d d1 found text ended lent before written drained owed l =
     end_facts d found text l.drains.text drained.passed drained.frames drained.written (length lent - drained.passed) drained.stop l.legal.0 l.passed_so_far (wrote_all d.job lent (held found) ended (writer_end found) before written drained l.same l.code l.drains)
 
-concludes_at : (d d1 : DrainState) (found : List Call) (text : List ℕ) (ended : Option ℕ) (lent : List ℕ) (before written : SinkState) (drained : LendPassed) (owed : Owed) (end : DrainEnd) → (l : IsLent d d1 found text ended lent before written drained owed)
-    → Concludes d.job (added d drained.passed drained.frames drained.written (length lent - drained.passed)).frames (added d drained.passed drained.frames drained.written (length lent - drained.passed)).written found (text ++ l.drains.text) end
-    → Concludes d1.job d1.frames d1.written (Read ∷ found) (text ++ l.drains.text) end
-concludes_at d d1 found text ended lent before written drained owed end l c =
-    subst (λ (e : DrainState). Concludes e.job e.frames e.written (Read ∷ found) (text ++ l.drains.text) end) (sym l.drainer)
-    (again d.job _ _ found (Read ∷ found) (text ++ l.drains.text) end refl refl c)
-
 stands_by : (d d1 : DrainState) (found : List Call) (text : List ℕ) (ended : Option ℕ) (lent : List ℕ) (before written after : SinkState) (drained : LendPassed) (owed : Owed) (o : Option DrainEnd) → (l : IsLent d d1 found text ended lent before written drained owed)
-    → end_at drained.stop ended d1.place ≡ o → EndsOwed o written owed.end after → StandsBehind d1 owed.end (Read ∷ found) (Advance owed.passed owed.len ∷ Read ∷ found) (text ++ l.drains.text)
+    → end_at drained.stop ended d1.place ≡ o → EndsOwed o written owed.end after → StandsBehind d1 owed.end (Advance owed.passed owed.len ∷ Read ∷ found) (text ++ l.drains.text)
 stands_by d d1 found text ended lent before written after drained owed None l at ends_owed =
     let so = goes_on_so drained.stop ended d1.place at in
     let n = drained.passed in
@@ -123,25 +122,30 @@ stands_by d d1 found text ended lent before written after drained owed None l at
     let gain = l.drains.text in
     let more = subst (λ (stop : Stop). Wrote d.job (held found) false n drained.frames drained.written stop gain) so.0 (wrote_all d.job lent (held found) ended None before written drained l.same so.1 l.drains) in
     let passed = passed_on d found text gain n drained.frames drained.written r (ap (λ (x : List ℕ). length x - n) l.same) l.legal.0 l.passed_so_far more in
-    subst (λ (o : Option DrainEnd). StandsBehind d1 o (Read ∷ found) (Advance owed.passed owed.len ∷ Read ∷ found) (text ++ gain)) (sym ends_owed.0)
+    subst (λ (o : Option DrainEnd). StandsBehind d1 o (Advance owed.passed owed.len ∷ Read ∷ found) (text ++ gain)) (sym ends_owed.0)
     (subst (λ (e : DrainState). IsDrained e (Advance owed.passed owed.len ∷ Read ∷ found) (text ++ gain)) (sym l.drainer)
     (subst (λ (c : ℕ). IsDrained (added d n drained.frames drained.written r) (Advance c owed.len ∷ Read ∷ found) (text ++ gain)) (sym l.passed)
     (subst (λ (e : ℕ). IsDrained (added d n drained.frames drained.written r) (Advance n e ∷ Read ∷ found) (text ++ gain)) (sym (l.len ∙ ap length l.same)) passed)))
 stands_by d d1 found text ended lent before written after drained owed (Some end) l at ends_owed =
     let facts = all_wrote d d1 found text ended lent before written drained owed l in
     let gain = l.drains.text in
-    subst (λ (o : Option DrainEnd). StandsBehind d1 o (Read ∷ found) (Advance owed.passed owed.len ∷ Read ∷ found) (text ++ gain)) (sym ends_owed.1)
+    let all = Advance owed.passed owed.len ∷ Read ∷ found in
+    subst (λ (o : Option DrainEnd). StandsBehind d1 o all (text ++ gain)) (sym ends_owed.1)
     (elim ends_owed.2 [
       | inl flushed ↦
           let as_told = ends_as d.job ended d1.place drained.stop end (drop drained.passed lent) l.drains.stopped.told at in
           let at_code = subst (λ (o : Option ℕ). EndsAs o d1.place drained.stop end) l.code as_told in
           let at_place = subst (λ (e : DrainState). EndsAs (writer_end found) e.place drained.stop end) l.drainer at_code in
-          subst (λ (e : DrainEnd). Concludes d1.job d1.frames d1.written (Read ∷ found) (text ++ gain) e) (sym flushed.1)
-          (concludes_at d d1 found text ended lent before written drained owed end l (concludes_well d found text gain _ _ _ _ drained.stop end facts at_place))
+          subst (λ (e : DrainEnd). Concludes d1.job d1.frames d1.written all (text ++ gain) e) (sym flushed.1)
+          (told end (concludes_well d found text gain _ _ _ _ owed.passed owed.len drained.stop end l.passed l.passed_so_far facts at_place))
       | inr failed ↦
-          subst (λ (e : DrainEnd). Concludes d1.job d1.frames d1.written (Read ∷ found) (text ++ gain) e) (sym failed.1)
-          (concludes_at d d1 found text ended lent before written drained owed ends.SinkFault l (concludes_unflushed d found text gain _ _ _ _ drained.stop facts))
+          subst (λ (e : DrainEnd). Concludes d1.job d1.frames d1.written all (text ++ gain) e) (sym failed.1)
+          (told ends.SinkFault (concludes_unflushed d found text gain _ _ _ _ owed.passed owed.len drained.stop facts))
     ])
+  where
+    told : (e : DrainEnd) → Concludes d.job (added d drained.passed drained.frames drained.written (length lent - drained.passed)).frames (added d drained.passed drained.frames drained.written (length lent - drained.passed)).written (Advance owed.passed owed.len ∷ Read ∷ found) (text ++ l.drains.text) e
+        → Concludes d1.job d1.frames d1.written (Advance owed.passed owed.len ∷ Read ∷ found) (text ++ l.drains.text) e
+    told e c = subst (λ (s : DrainState). Concludes s.job s.frames s.written (Advance owed.passed owed.len ∷ Read ∷ found) (text ++ l.drains.text) e) (sym l.drainer) c
 
 may_advance : (found : List Call) (lent : List ℕ) (c e : ℕ) → IsLegal (Read ∷ found) → lend (Read ∷ found) ≡ Some lent → c ≤ e → e ≤ length lent → MayFollow (Advance c e) (Read ∷ found)
 may_advance found lent c e legal lends first second = (legal.1.0, subst (λ (o : Option (List ℕ)). IsSomeAnd o (λ bytes. (c ≤ e) × (e ≤ length bytes))) (sym lends) (first, second))
@@ -212,9 +216,9 @@ behind_read d h text drained = record { place = drained.place; passes = drained.
 pub as_reply : {P : Type 0} (at : P → List Call → Type 0) (others : Call → Type 0) (h : List Call) (reply reply' : ReadReply) (p : P) → reply ≡ reply' → CallsLater at others h Read (λ found. reply ≡ reply_to_read found) p → CallsLater at others h Read (λ found. reply' ≡ reply_to_read found) p
 as_reply at others h reply reply' p same called = record { found = called.found; later = called.later; so = sym same ∙ called.so; legal = called.legal; stands = called.stands }
 
-pub read_refused : {P A : Type 0} (at : P → List Call → Type 0) (others : Call → Type 0) (refuses : TryFault → P → P → Type 0) (exchanges : P → ℕ) (lent : P → Option ℕ) (aside : P → A) (d : DrainingState) (p p' : P) (k : SinkState) (fault : TryFault) → d.owed ≡ None
-    → ((call : Call) → others call → seat_of call ≢ 1) → ((h : List Call) → at p h → HearsLater at others h p') → refuses fault p p' → lent p' ≡ lent p → lent p ≡ None → aside p' ≡ aside p → exchanges p ≤ exchanges p' → DrainsOnce at others refuses exchanges lent aside d p k (Err fault) d p' k
-read_refused at others refuses exchanges lent aside d p p' k fault fresh ours hears refused lends none kept more = record {
+pub read_refused : {P A : Type 0} (at : P → List Call → Type 0) (others : Call → Type 0) (refuses : TryFault → P → P → Type 0) (tally : P → Tally) (lent : P → Option ℕ) (aside : P → A) (d : DrainingState) (p p' : P) (k : SinkState) (fault : TryFault) → d.owed ≡ None
+    → ((call : Call) → others call → seat_of call ≢ 1) → ((h : List Call) → at p h → HearsLater at others h p') → refuses fault p p' → lent p' ≡ lent p → lent p ≡ None → aside p' ≡ aside p → DrainsOnce at others refuses tally lent aside d p k (Err fault) d p' k
+read_refused at others refuses tally lent aside d p p' k fault fresh ours hears refused lends none kept = record {
   gain = [];
   gained = subst (λ (o : Option Owed). GainsBy o (owes_fault o) k [] k) (sym fresh) (takes_nothing k k refl);
   cause = λ h text is passed.
@@ -225,19 +229,19 @@ read_refused at others refuses exchanges lent aside d p p' k fault fresh ours he
         stands = heard.stands;
         how = (
           subst (λ (t : List ℕ). HasPassed d heard.found t) (sym (append-nil text)) (passed_of d heard.found text fresh (drained_later others ours d.drained h heard.found text heard.later heard.legal (drained_of d h text fresh passed))),
-          record { found = p; behind = omega arith; refused = refused },
+          record { found = p; spent = omega arith; refused = refused },
         );
       };
   job = refl;
   kept = kept;
-  exchanged = more;
+  spent = tt;
   lends = lends ∙ none ∙ sym (ap (λ (o : Option Owed). lent_for o) fresh);
   within = subst (λ (o : Option Owed). IsWithin o) (sym fresh) tt;
 }
 
-pub read_pending : {P A : Type 0} (at : P → List Call → Type 0) (others : Call → Type 0) (refuses : TryFault → P → P → Type 0) (exchanges : P → ℕ) (lent : P → Option ℕ) (aside : P → A) (d : DrainingState) (p p' : P) (k : SinkState) (n : ℕ) → d.owed ≡ None → ((call : Call) → others call → seat_of call ≢ 1)
-    → ((h : List Call) → at p h → CallsLater at others h Read (λ found. read.Pending n ≡ reply_to_read found) p') → lent p' ≡ None → aside p' ≡ aside p → exchanges p ≤ exchanges p' → DrainsOnce at others refuses exchanges lent aside d p k (Ok (Idle n)) d p' k
-read_pending at others refuses exchanges lent aside d p p' k n fresh ours reads none kept more = record {
+pub read_pending : {P A : Type 0} (at : P → List Call → Type 0) (others : Call → Type 0) (refuses : TryFault → P → P → Type 0) (tally : P → Tally) (lent : P → Option ℕ) (aside : P → A) (d : DrainingState) (p p' : P) (k : SinkState) (n : ℕ) → d.owed ≡ None → ((call : Call) → others call → seat_of call ≢ 1)
+    → ((h : List Call) → at p h → CallsLater at others h Read (λ found. read.Pending n ≡ reply_to_read found) p') → lent p' ≡ None → aside p' ≡ aside p → Spends 0 (tally p) (tally p') → DrainsOnce at others refuses tally lent aside d p k (Ok (Idle n)) d p' k
+read_pending at others refuses tally lent aside d p p' k n fresh ours reads none kept spent = record {
   gain = [];
   gained = subst (λ (o : Option Owed). GainsBy o false k [] k) (sym fresh) (takes_nothing k k refl);
   cause = λ h text is passed.
@@ -255,7 +259,7 @@ read_pending at others refuses exchanges lent aside d p p' k n fresh ours reads 
       };
   job = refl;
   kept = kept;
-  exchanged = more;
+  spent = spent;
   lends = none ∙ sym (ap (λ (o : Option Owed). lent_for o) fresh);
   within = subst (λ (o : Option Owed). IsWithin o) (sym fresh) tt;
 }
@@ -263,20 +267,20 @@ read_pending at others refuses exchanges lent aside d p p' k n fresh ours reads 
 -- ---- behind a lend
 
 -- what the advance came to is what the step did
-step_by : {P : Type 0} (at : P → List Call → Type 0) (others : Call → Type 0) (refuses : TryFault → P → P → Type 0) (exchanges : P → ℕ) (d d1 d' : DrainingState) (h found : List Call) (text gain : List ℕ) (p p1 p' : P) (result : Result Progress TryFault) (owed : Owed) (k : List Call) → d.owed ≡ None → exchanges p ≤ exchanges p1
+step_by : {P : Type 0} (at : P → List Call → Type 0) (others : Call → Type 0) (refuses : TryFault → P → P → Type 0) (tally : P → Tally) (d d1 d' : DrainingState) (h found : List Call) (text gain : List ℕ) (p p1 p' : P) (result : Result Progress TryFault) (owed : Owed) (k : List Call) → d.owed ≡ None → Spends 0 (tally p) (tally p1)
     → AdvancesBy at others refuses d1 owed (Read ∷ found) (text ++ gain) p1 result d' k p' → ((frames : ℕ) → owed.end ≡ None → frames ≡ owed.frames → d' ≡ record d1 { owed = None } → IsAdvanced others owed (Read ∷ found) k → MovesBy others None d h frames d' k)
-    → StepsBy at others refuses exchanges d h text gain p result d' k p'
-step_by at others refuses exchanges d d1 d' h found text gain p p1 p' (Ok (Idle n)) owed k fresh first how moves = absurd how
-step_by at others refuses exchanges d d1 d' h found text gain p p1 p' (Ok (Moved frames)) owed k fresh first how moves = (
+    → StepsBy at others refuses tally d h text gain p result d' k p'
+step_by at others refuses tally d d1 d' h found text gain p p1 p' (Ok (Idle n)) owed k fresh first how moves = absurd how
+step_by at others refuses tally d d1 d' h found text gain p p1 p' (Ok (Moved frames)) owed k fresh first how moves = (
   subst (λ (o : Option Owed). MovesBy others o d h frames d' k) (sym fresh) (moves frames how.0 how.1 how.4 how.2),
   ap (λ e. e.owed) how.4,
   subst (λ (e : DrainingState). IsDrained e.drained k (text ++ gain)) (sym how.4) how.3,
 )
-step_by at others refuses exchanges d d1 d' h found text gain p p1 p' (Ok (Ended end)) owed k fresh first how moves =
+step_by at others refuses tally d d1 d' h found text gain p p1 p' (Ok (Ended end)) owed k fresh first how moves =
     subst (λ (e : DrainingState). Concludes e.drained.job e.drained.frames e.drained.written k (text ++ gain) end) (sym how.3) how.2
-step_by at others refuses exchanges d d1 d' h found text gain p p1 p' (Err fault) owed k fresh first how moves = (
+step_by at others refuses tally d d1 d' h found text gain p p1 p' (Err fault) owed k fresh first how moves = (
   subst (λ (e : DrainingState). HasPassed e k (text ++ gain)) (sym how.3) how.1,
-  record { found = p1; behind = first; refused = how.2 },
+  record { found = p1; spent = first; refused = how.2 },
 )
 
 advanced_goes : {P : Type 0} (at : P → List Call → Type 0) (others : Call → Type 0) (refuses : TryFault → P → P → Type 0) (d d' : DrainingState) (owed : Owed) (h : List Call) (text : List ℕ) (p p' : P) (result : Result Progress TryFault) (k : List Call) → AdvancesBy at others refuses d owed h text p result d' k p' → Later (OrReaders others) h k
@@ -289,12 +293,12 @@ advanced_goes at others refuses d d' owed h text p p' (Ok (Ended end)) k how =
     subst (λ (x : List Call). Later (OrReaders others) h x) (sym how.1.is) (with_call others h how.1.found (Advance owed.passed owed.len) refl (later_goes others h how.1.found how.1.later))
 advanced_goes at others refuses d d' owed h text p p' (Err fault) k how = later_goes others h k how.0
 
-pub read_passed : {P A : Type 0} (at : P → List Call → Type 0) (others : Call → Type 0) (refuses : TryFault → P → P → Type 0) (exchanges : P → ℕ) (lent : P → Option ℕ) (aside : P → A) (d d1 d' : DrainingState) (p p1 p' : P) (before after : SinkState) (canceled : Bool) (ended : Option ℕ) (len : ℕ) (bytes : List ℕ) (owed : Owed) (result : Result Progress TryFault)
+pub read_passed : {P A : Type 0} (at : P → List Call → Type 0) (others : Call → Type 0) (refuses : TryFault → P → P → Type 0) (tally : P → Tally) (lent : P → Option ℕ) (aside : P → A) (d d1 d' : DrainingState) (p p1 p' : P) (before after : SinkState) (canceled : Bool) (ended : Option ℕ) (len : ℕ) (bytes : List ℕ) (owed : Owed) (result : Result Progress TryFault)
     → d.owed ≡ None → ((call : Call) → others call → seat_of call ≢ 1) → ((h : List Call) → at p h → CallsLater at others h Read (λ found. read.Ready canceled ended len ≡ reply_to_read found) p1) → ((h : List Call) → at p1 h → lend h ≡ Some bytes)
     → PassesLend ended bytes d.drained before (Some owed) d1.drained after
     → ((h : List Call) (text : List ℕ) → at p1 h → Owes d1.drained owed h text → AdvancesTo at others refuses d1 owed h text p1 result d' p') → d'.drained ≡ d1.drained → has_failed result d' ≡ is_fault owed.end
-    → aside p' ≡ aside p → exchanges p ≤ exchanges p1 → exchanges p1 ≤ exchanges p' → IfMore result (lent p' ≡ lent_for d'.owed) → IsWithin d'.owed → DrainsOnce at others refuses exchanges lent aside d p before result d' p' after
-read_passed at others refuses exchanges lent aside d d1 d' p p1 p' before after canceled ended len bytes owed result fresh ours reads lends passes advanced same failed kept first second lent_is within =
+    → aside p' ≡ aside p → Spends 0 (tally p) (tally p1) → IfOk result (λ _. Spends 0 (tally p1) (tally p')) → IfMore result (lent p' ≡ lent_for d'.owed) → IsWithin d'.owed → DrainsOnce at others refuses tally lent aside d p before result d' p' after
+read_passed at others refuses tally lent aside d d1 d' p p1 p' before after canceled ended len bytes owed result fresh ours reads lends passes advanced same failed kept first second lent_is within =
     let drained = passes.0 in
     let written = passes.1 in
     let drains = passes.2 in
@@ -317,7 +321,7 @@ read_passed at others refuses exchanges lent aside d d1 d' p p1 p' before after 
             on = later_on (OrReaders others) h (Read ∷ found) a.now read_on (advanced_goes at others refuses d1 d' owed (Read ∷ found) (text ++ gain) p1 p' result a.now a.how);
             legal = a.legal;
             stands = a.stands;
-            how = step_by at others refuses exchanges d d1 d' h found text gain p p1 p' result owed a.now fresh first a.how (λ frames none told same_d is_advanced.
+            how = step_by at others refuses tally d d1 d' h found text gain p p1 p' result owed a.now fresh first a.how (λ frames none told same_d is_advanced.
                 let so = goes_on_so drained.stop ended d1.drained.place (none_at drained.stop ended d1.drained.place _ written after owed.end refl passes.7 none) in
                 let all = passed_all d.drained found text gain (is_success ended) drained.passed drained.frames at_found (subst (λ (x : List ℕ). Passes d.drained.job x (is_success ended) drained.passed drained.frames gain) same_lent drains.passes) in
                 record {
@@ -332,19 +336,23 @@ read_passed at others refuses exchanges lent aside d d1 d' p p1 p' before after 
           };
       job = ap (λ e. e.job) same ∙ ap (λ e. e.job) passes.3;
       kept = kept;
-      exchanged = omega (arith, first, second);
+      spent = spent_both result second;
       lends = lent_is;
       within = within;
     }
   where
+    spent_both : (r : Result Progress TryFault) → IfOk r (λ _. Spends 0 (tally p1) (tally p')) → IfOk r (λ _. Spends 0 (tally p) (tally p'))
+    spent_both (Ok progress) second = omega (arith, first, second)
+    spent_both (Err fault) second = tt
+
     none_at : (stop : Stop) (ended : Option ℕ) (place : ℕ) (o : Option DrainEnd) (written after : SinkState) (owed_end : Option DrainEnd) → end_at stop ended place ≡ o → EndsOwed o written owed_end after → owed_end ≡ None → end_at stop ended place ≡ None
     none_at stop ended place None written after owed_end at ends_owed none = at
     none_at stop ended place (Some end) written after owed_end at ends_owed none = let both = sym ends_owed.1 ∙ none in absurd cc
 
-pub read_broken : {P A : Type 0} (at : P → List Call → Type 0) (others : Call → Type 0) (refuses : TryFault → P → P → Type 0) (exchanges : P → ℕ) (lent : P → Option ℕ) (aside : P → A) (d d1 : DrainingState) (p p1 : P) (before after : SinkState) (canceled : Bool) (ended : Option ℕ) (len : ℕ) (bytes : List ℕ)
+pub read_broken : {P A : Type 0} (at : P → List Call → Type 0) (others : Call → Type 0) (refuses : TryFault → P → P → Type 0) (tally : P → Tally) (lent : P → Option ℕ) (aside : P → A) (d d1 : DrainingState) (p p1 : P) (before after : SinkState) (canceled : Bool) (ended : Option ℕ) (len : ℕ) (bytes : List ℕ)
     → d.owed ≡ None → d1.owed ≡ d.owed → ((call : Call) → others call → seat_of call ≢ 1) → ((h : List Call) → at p h → CallsLater at others h Read (λ found. read.Ready canceled ended len ≡ reply_to_read found) p1) → ((h : List Call) → at p1 h → lend h ≡ Some bytes)
-    → PassesLend ended bytes d.drained before None d1.drained after → aside p1 ≡ aside p → exchanges p ≤ exchanges p1 → DrainsOnce at others refuses exchanges lent aside d p before (Ok (Ended ends.SinkFault)) d1 p1 after
-read_broken at others refuses exchanges lent aside d d1 p p1 before after canceled ended len bytes fresh still ours reads lends passes kept more =
+    → PassesLend ended bytes d.drained before None d1.drained after → aside p1 ≡ aside p → Spends 0 (tally p) (tally p1) → DrainsOnce at others refuses tally lent aside d p before (Ok (Ended ends.SinkFault)) d1 p1 after
+read_broken at others refuses tally lent aside d d1 p p1 before after canceled ended len bytes fresh still ours reads lends passes kept spent =
     let broken = passes.0 in
     let breaks = passes.1 in
     let gain = breaks.text ++ breaks.part in
@@ -365,21 +373,21 @@ read_broken at others refuses exchanges lent aside d d1 p p1 before after cancel
             stands = r.stands;
             how =
                 subst (λ (e : DrainState). Concludes e.job e.frames e.written (Read ∷ found) (text ++ gain) ends.SinkFault) (sym passes.2)
-                (again d.drained.job _ _ found (Read ∷ found) (text ++ gain) ends.SinkFault refl refl (record { front = fails.front; whole = λ passed. absurd cc; verdict = λ passed. absurd cc; ended = tt; frames_told = fails.frames; written_told = fails.written; bounded = fails.bounded }));
+                (again d.drained.job _ _ found (Read ∷ found) (text ++ gain) ends.SinkFault refl refl refl (record { front = fails.front; whole = λ passed. absurd cc; verdict = λ passed. absurd cc; ended = tt; passed = λ passed. absurd cc; frames_told = fails.frames; written_told = fails.written }));
           };
       job = ap (λ e. e.job) passes.2;
       kept = kept;
-      exchanged = more;
+      spent = spent;
       lends = tt;
       within = subst (λ (o : Option Owed). IsWithin o) (sym (still ∙ fresh)) tt;
     }
 
 -- ---- a step that makes what is owed
 
-pub owed_step : {P A : Type 0} (at : P → List Call → Type 0) (others : Call → Type 0) (refuses : TryFault → P → P → Type 0) (exchanges : P → ℕ) (lent : P → Option ℕ) (aside : P → A) (d d' : DrainingState) (p p' : P) (k : SinkState) (owed : Owed) (result : Result Progress TryFault) → d.owed ≡ Some owed
-    → ((h : List Call) (text : List ℕ) → at p h → Owes d.drained owed h text → AdvancesTo at others refuses d owed h text p result d' p') → d'.drained ≡ d.drained → aside p' ≡ aside p → exchanges p ≤ exchanges p'
-    → has_failed result d' ≡ is_fault owed.end → IfMore result (lent p' ≡ lent_for d'.owed) → IsWithin d'.owed → DrainsOnce at others refuses exchanges lent aside d p k result d' p' k
-owed_step at others refuses exchanges lent aside d d' p p' k owed result owes_it advanced same kept more failed lends within = record {
+pub owed_step : {P A : Type 0} (at : P → List Call → Type 0) (others : Call → Type 0) (refuses : TryFault → P → P → Type 0) (tally : P → Tally) (lent : P → Option ℕ) (aside : P → A) (d d' : DrainingState) (p p' : P) (k : SinkState) (owed : Owed) (result : Result Progress TryFault) → d.owed ≡ Some owed
+    → ((h : List Call) (text : List ℕ) → at p h → Owes d.drained owed h text → AdvancesTo at others refuses d owed h text p result d' p') → d'.drained ≡ d.drained → aside p' ≡ aside p → IfOk result (λ _. Spends 0 (tally p) (tally p'))
+    → has_failed result d' ≡ is_fault owed.end → IfMore result (lent p' ≡ lent_for d'.owed) → IsWithin d'.owed → DrainsOnce at others refuses tally lent aside d p k result d' p' k
+owed_step at others refuses tally lent aside d d' p p' k owed result owes_it advanced same kept spent failed lends within = record {
   gain = [];
   gained = subst (λ (o : Option Owed). GainsBy o (has_failed result d') k [] k) (sym owes_it) (refl, refl, failed);
   cause = λ h text is passed.
@@ -388,26 +396,26 @@ owed_step at others refuses exchanges lent aside d d' p p' k owed result owes_it
         on = advanced_goes at others refuses d d' owed h text p p' result a.now a.how;
         legal = a.legal;
         stands = a.stands;
-        how = owed_by at others refuses exchanges d d' owed h text p p' result a.now owes_it a.how;
+        how = owed_by at others refuses tally d d' owed h text p p' result a.now owes_it a.how;
       };
   job = ap (λ e. e.job) same;
   kept = kept;
-  exchanged = more;
+  spent = spent;
   lends = lends;
   within = within;
 }
   where
-    owed_by : {P : Type 0} (at : P → List Call → Type 0) (others : Call → Type 0) (refuses : TryFault → P → P → Type 0) (exchanges : P → ℕ) (d d' : DrainingState) (owed : Owed) (h : List Call) (text : List ℕ) (p p' : P) (result : Result Progress TryFault) (k : List Call) → d.owed ≡ Some owed → AdvancesBy at others refuses d owed h text p result d' k p' → StepsBy at others refuses exchanges d h text [] p result d' k p'
-    owed_by at others refuses exchanges d d' owed h text p p' (Ok (Idle n)) k owes_it how = absurd how
-    owed_by at others refuses exchanges d d' owed h text p p' (Ok (Moved frames)) k owes_it how = (
+    owed_by : {P : Type 0} (at : P → List Call → Type 0) (others : Call → Type 0) (refuses : TryFault → P → P → Type 0) (tally : P → Tally) (d d' : DrainingState) (owed : Owed) (h : List Call) (text : List ℕ) (p p' : P) (result : Result Progress TryFault) (k : List Call) → d.owed ≡ Some owed → AdvancesBy at others refuses d owed h text p result d' k p' → StepsBy at others refuses tally d h text [] p result d' k p'
+    owed_by at others refuses tally d d' owed h text p p' (Ok (Idle n)) k owes_it how = absurd how
+    owed_by at others refuses tally d d' owed h text p p' (Ok (Moved frames)) k owes_it how = (
       subst (λ (o : Option Owed). MovesBy others o d h frames d' k) (sym owes_it) (how.1, ap (λ e. e.drained) how.4),
       ap (λ e. e.owed) how.4,
       subst (λ (t : List ℕ). IsDrained d'.drained k t) (sym (append-nil text)) (subst (λ (e : DrainingState). IsDrained e.drained k text) (sym how.4) how.3),
     )
-    owed_by at others refuses exchanges d d' owed h text p p' (Ok (Ended end)) k owes_it how =
+    owed_by at others refuses tally d d' owed h text p p' (Ok (Ended end)) k owes_it how =
         subst (λ (t : List ℕ). Concludes d'.drained.job d'.drained.frames d'.drained.written k t end) (sym (append-nil text))
         (subst (λ (e : DrainingState). Concludes e.drained.job e.drained.frames e.drained.written k text end) (sym how.3) how.2)
-    owed_by at others refuses exchanges d d' owed h text p p' (Err fault) k owes_it how = (
+    owed_by at others refuses tally d d' owed h text p p' (Err fault) k owes_it how = (
       subst (λ (t : List ℕ). HasPassed d' k t) (sym (append-nil text)) (subst (λ (e : DrainingState). HasPassed e k text) (sym how.3) how.1),
-      record { found = p; behind = omega arith; refused = how.2 },
+      record { found = p; spent = omega arith; refused = how.2 },
     )

@@ -22,6 +22,7 @@ use Rattle.relay_engine.specs.Ending.{is_sink_fault, verdict_for}
 use Rattle.relay_engine.specs.Sides.{Concludes, GainsUntil, IsEndedFor}
 use Rattle.relay_engine.specs.declared.drain_end.DrainEnd.{DrainEnd}
 use Rattle.relay_engine.specs.declared.drain_end.DrainEnd.TheVariants as ends
+use Rattle.relay_engine.proofs.BoundLemmas.{front_bounded}
 use Rattle.relay_engine.proofs.CountLemmas.{frames_of_more}
 
 -- ---- what the reader had seen of what was taken
@@ -155,5 +156,5 @@ reported job report x fill found text end sb s kb k limit outcome taken is_taken
   ended = outcome ∙ same_outcome (is_sink_fault end) fill (verdict_for end) (translation job x (is_at_end fill)).verdict (λ passed. sym (concludes.verdict passed) ∙ ap (λ t. t.verdict) (stands.same passed));
   frames = concludes.frames_told ∙ stands.frames;
   taken = taken;
-  written = omega (arith, concludes.written_told, concludes.bounded, stands.within, is_taken.within, limit);
+  written = omega (arith, concludes.written_told, front_bounded job (total found) (is_whole found) text concludes.front, stands.within, is_taken.within, limit);
 }

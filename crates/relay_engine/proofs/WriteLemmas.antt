@@ -1,7 +1,7 @@
 -- Frames that are written, one behind the other, and how many of them are whole where a call failed.
-use Rattle.std.proofs.Common.{◌≡◌, ◌<◌, ◌≤◌, ◌+◌, ◌-◌, ◌*◌, ◌^◌, ℕ, Bool, List, [], ◌++◌, length, take, drop, refl, sym, ap, ◌∙◌, subst, arith, append_assoc, append-nil}
+use Rattle.std.proofs.Common.{◌≡◌, ◌<◌, ◌≤◌, ◌+◌, ◌-◌, ◌^◌, ℕ, Bool, List, [], ◌++◌, length, take, drop, refl, sym, ap, ◌∙◌, subst, arith, append_assoc, append-nil}
 use Rattle.std.specs.Prelude.{min}
-use Rattle.std.proofs.lemmas.List.{drop-drop, length-append, length-drop, length-take, take-append-drop, take-append-le}
+use Rattle.std.proofs.lemmas.List.{drop-drop, length-append, length-take, take-append-drop, take-append-le}
 use Rattle.std.proofs.Math.Seq.{take-append-add, take-append_seam}
 use mathlib.Core.List.{IsPrefix}
 use Rattle.edge_core.specs.Device.{SinkState, Takes}
@@ -11,6 +11,7 @@ use Rattle.frame_grammar.specs.Job.{translation}
 use Rattle.relay_engine.specs.Frames.{Breaks, CountsWhole, Drains, Interrupts, IsFirst, Passes, StopsAt, capped}
 use Rattle.relay_engine.specs.Gathering.{Gathered, Puts, PutsFront, begun, counted}
 use Rattle.relay_engine.specs.declared.frames.Stop.{Stop}
+use Rattle.relay_engine.proofs.BoundLemmas.{front_bounded}
 use Rattle.relay_engine.proofs.FrameLemmas.{capped_more, passed_text, passes_more}
 use Rattle.relay_engine.proofs.GatherLemmas.{front_last, puts_more}
 
@@ -55,30 +56,28 @@ front_take out all front = sym (ap (λ (b : List ℕ). take (length out) b) (sym
 
 -- a call failed behind these frames, within a piece of what comes next
 pub interrupted : (job : Job) (x : List ℕ) (at_end : Bool) (h i : Gathered) (s t u : SinkState) (n frames : ℕ) (text piece behind_it : List ℕ) → length x ≤ 2 ^ 62 → Passes job x at_end n frames text → Puts begun s text h t
-    → (translation job (drop n x) at_end).text ≡ piece ++ behind_it → length piece ≤ 5 * length (drop n x) → PutsFront h t piece i u → Interrupts job x at_end s i.passed u
-interrupted job x at_end h i s t u n frames text piece behind_it small passes puts next bounded failed =
+    → (translation job (drop n x) at_end).text ≡ piece ++ behind_it → PutsFront h t piece i u → Interrupts job x at_end s i.passed u
+interrupted job x at_end h i s t u n frames text piece behind_it small passes puts next failed =
     let f = front_last begun h i s t u text piece puts failed in
     let all : (translation job x at_end).text ≡ (text ++ piece) ++ behind_it = text_behind job x at_end n frames text passes ∙ ap (λ (b : List ℕ). text ++ b) next ∙ sym (append_assoc text piece behind_it) in
     let front : IsPrefix f.out (translation job x at_end).text = (f.front.0 ++ behind_it, sym (append_assoc f.out f.front.0 behind_it) ∙ ap (λ (b : List ℕ). b ++ behind_it) f.front.1 ∙ sym all) in
-    let within : length f.out ≤ 5 * length x = omega (arith, f.short, length-append text piece, passes.bounded, passes.within, bounded, length-drop n x) in
-    let told : i.passed ≡ length f.out = omega (arith, f.passed, within, small) in
+    let told : i.passed ≡ length f.out = omega (arith, f.passed, front_bounded job x at_end f.out front, small) in
     record {
       short = omega (arith, told, f.short, ap length all, length-append (text ++ piece) behind_it);
       written = rw (told, ← front_take f.out (translation job x at_end).text front) f.taken;
       risen = f.risen;
-      bounded = omega (arith, told, within);
     }
 
 pub interrupted_within : (job : Job) (x : List ℕ) (at_end : Bool) (h i : Gathered) (s t u : SinkState) (n frames len : ℕ) (text payload : List ℕ) → length x ≤ 2 ^ 62 → Passes job x at_end n frames text → Puts begun s text h t
     → IsFirst job (drop n x) at_end payload len → PutsFront h t (spelling job.output payload) i u → Interrupts job x at_end s i.passed u
 interrupted_within job x at_end h i s t u n frames len text payload small passes puts first failed =
     interrupted job x at_end h i s t u n frames text (spelling job.output payload) (translation job (drop len (drop n x)) at_end).text small passes puts
-    (text_behind job (drop n x) at_end len 1 (spelling job.output payload) first.passes) (omega (arith, first.passes.bounded, first.passes.within)) failed
+    (text_behind job (drop n x) at_end len 1 (spelling job.output payload) first.passes) failed
 
 pub interrupted_behind : (job : Job) (x : List ℕ) (at_end : Bool) (h i : Gathered) (s t u : SinkState) (n frames : ℕ) (text : List ℕ) → length x ≤ 2 ^ 62 → Passes job x at_end n frames text → Puts begun s text h t
     → PutsFront h t [] i u → Interrupts job x at_end s i.passed u
 interrupted_behind job x at_end h i s t u n frames text small passes puts failed =
-    interrupted job x at_end h i s t u n frames text [] (translation job (drop n x) at_end).text small passes puts refl (omega arith) failed
+    interrupted job x at_end h i s t u n frames text [] (translation job (drop n x) at_end).text small passes puts refl failed
 
 -- the first frame that isn't whole
 pub counts_whole : (job : Job) (x : List ℕ) (at_end : Bool) (written n frames left len : ℕ) (text payload : List ℕ) → Passes job x at_end n frames text → written ≡ length text + left → IsFirst job (drop n x) at_end payload len
@@ -121,7 +120,6 @@ broken job x at_end s u passed frames told stops counts is =
       written = rw (← counts.whole) stops.written;
       risen = stops.risen;
       counted = is ∙ ap (λ (n : ℕ). capped n) size;
-      bounded = omega (arith, size, stops.bounded);
     }
 
 -- one more frame is whole

@@ -19,8 +19,10 @@ use Rattle.pipe_shared.specs.Ends.{Writer}
 use Rattle.pipe_shared.specs.Granting.{Grants}
 use Rattle.relay_engine.specs.Filler.{written}
 use Rattle.relay_engine.specs.Later.{CallsLater, HearsLater}
-use Rattle.relay_engine.specs.WriterEnds.{HasWritten, IsOthers}
+use Rattle.relay_engine.specs.Filling.{IsGranted}
+use Rattle.relay_engine.specs.WriterEnds.{HasWritten, IsOthers, drafting}
 use Rattle.relay_engine.proofs.FillingLemmas.{written_later}
+use Rattle.relay_engine.proofs.TallyLemmas.{wins_spends}
 
 -- ---- what the end has heard
 
@@ -41,6 +43,12 @@ granted options n w w' law g h at = elim g.how [
     stands = (at.0 ∙ sym (ap (λ (x : Writer). calls_of x.seat.seen) same.1), at.1);
   }
   | inr anew ↦ heard w w' (law anew.wins) anew.wins.lawful.legal h at
+]
+
+pub room_granted : (options : Options) (n : ℕ) (w w' : Writer) → Grants options 1 n w w' → IsGranted (drafting w) (drafting w')
+room_granted options n w w' g = elim g.how [
+  | inl same ↦ inl (omega (arith, ap (λ (x : Writer). x.seat.exchanges) same.1, ap (λ (x : Writer). length x.seat.own) same.1))
+  | inr anew ↦ inr (omega (arith, anew.short), wins_spends w.seat w'.seat anew.wins)
 ]
 
 -- ---- what it has called

@@ -1,5 +1,5 @@
 -- What a step of a drainer does on any pipe, whose writer may go on meanwhile.
-use Rattle.std.specs.Prelude.{ℕ, ◌≡◌, ◌≤◌, ◌+◌, ◌-◌, ◌⊎◌, Bool, true, false, List, [], ◌∷◌, ◌++◌, length, Option, Some, None, Result, Ok, Err}
+use Rattle.std.specs.Prelude.{ℕ, ◌≡◌, ◌≤◌, ◌+◌, ◌-◌, ◌⊎◌, Bool, true, false, List, [], ◌∷◌, ◌++◌, length, Option, Some, None, Result, Ok, Err, IfOk}
 use Rattle.std.specs.Io.KnownBytes.{Appends}
 use Rattle.edge_core.specs.Device.{SinkState, SinkFails, Takes, HasRisen}
 use Rattle.pipe_core.specs.declared.reply.ReadReply.TheVariants as read
@@ -14,6 +14,7 @@ use Rattle.relay_engine.specs.Passing.{added, end_at}
 use Rattle.relay_engine.specs.Drainer.{DrainState, IsDrained, is_success}
 use Rattle.relay_engine.specs.Ending.{is_sink_fault}
 use Rattle.relay_engine.specs.Sides.{Concludes}
+use Rattle.relay_engine.specs.Tally.{Spends, Tally}
 use Rattle.relay_engine.specs.declared.drain_end.DrainEnd.{DrainEnd}
 use Rattle.relay_engine.specs.declared.drain_end.DrainEnd.TheVariants as ends
 use Rattle.relay_engine.specs.declared.frames.LendPassed.{LendPassed}
@@ -28,14 +29,14 @@ pub record DrainingState : Type 0 where
   pub owed : Option Owed
 
 -- What stands behind the advance: the drainer goes on, or it ends.
-abbrev pub StandsBehind : DrainState → Option DrainEnd → List Call → List Call → List ℕ → Type 0
-StandsBehind d None h advanced text = IsDrained d advanced text
-StandsBehind d (Some end) h advanced text = Concludes d.job d.frames d.written h text end
+abbrev pub StandsBehind : DrainState → Option DrainEnd → List Call → List ℕ → Type 0
+StandsBehind d None advanced text = IsDrained d advanced text
+StandsBehind d (Some end) advanced text = Concludes d.job d.frames d.written advanced text end
 
 -- The frames of the standing lend were written, and an advance over them is owed.
 pub record Owes (d : DrainState) (owed : Owed) (h : List Call) (text : List ℕ) : Type 0 where
   pub may : MayFollow (Advance owed.passed owed.len) h
-  pub behind : StandsBehind d owed.end h (Advance owed.passed owed.len ∷ h) text
+  pub behind : StandsBehind d owed.end (Advance owed.passed owed.len ∷ h) text
 
 abbrev pub Stands : DrainState → Option Owed → List Call → List ℕ → Type 0
 Stands d None h text = IsDrained d h text
@@ -90,19 +91,19 @@ abbrev pub MovesBy : (Call → Type 0) → Option Owed → DrainingState → Lis
 MovesBy others None d h frames d' k = MovesOn others d h frames d' k
 MovesBy others (Some owed) d h frames d' k = (frames ≡ owed.frames) × (d'.drained ≡ d.drained)
 
--- A call of the step was refused so. What stood before it had made no fewer exchanges than what stood before the step.
-pub record IsRefused {P : Type 0} (refuses : TryFault → P → P → Type 0) (exchanges : P → ℕ) (fault : TryFault) (p p' : P) : Type 0 where
+-- The last call of the step was refused so. Each exchange before it has made an entry.
+pub record IsRefused {P : Type 0} (refuses : TryFault → P → P → Type 0) (tally : P → Tally) (fault : TryFault) (p p' : P) : Type 0 where
   pub found : P
-  pub behind : exchanges p ≤ exchanges found
+  pub spent : Spends 0 (tally p) (tally found)
   pub refused : refuses fault found p'
 
-module _ {P : Type 0} (at : P → List Call → Type 0) (others : Call → Type 0) (refuses : TryFault → P → P → Type 0) (exchanges : P → ℕ) where
+module _ {P : Type 0} (at : P → List Call → Type 0) (others : Call → Type 0) (refuses : TryFault → P → P → Type 0) (tally : P → Tally) where
   -- Why a step answered so, of a drainer that had seen h and had written `text`. With the step it has seen k.
   abbrev pub StepsBy : DrainingState → List Call → List ℕ → List ℕ → P → Result Progress TryFault → DrainingState → List Call → P → Type 0
   StepsBy d h text gain p (Ok (Idle examined_told)) d' k p' = Idles others d h gain examined_told d' k × HasPassed d' k text
   StepsBy d h text gain p (Ok (Moved frames)) d' k p' = MovesBy others d.owed d h frames d' k × (d'.owed ≡ None) × IsDrained d'.drained k (text ++ gain)
   StepsBy d h text gain p (Ok (Ended end)) d' k p' = Concludes d'.drained.job d'.drained.frames d'.drained.written k (text ++ gain) end
-  StepsBy d h text gain p (Err fault) d' k p' = HasPassed d' k (text ++ gain) × IsRefused refuses exchanges fault p p'
+  StepsBy d h text gain p (Err fault) d' k p' = HasPassed d' k (text ++ gain) × IsRefused refuses tally fault p p'
 
   pub record StepsTo (d : DrainingState) (h : List Call) (text gain : List ℕ) (p : P) (result : Result Progress TryFault) (d' : DrainingState) (p' : P) : Type 0 where
     pub now : List Call
@@ -141,13 +142,13 @@ IfMore (Ok (Ended end)) P = Unit {0}
 IfMore result P = P
 
 -- One step on the reading end of a pipe, of which `at` says for which histories it stands and `lent` how long its lend is.
-pub record DrainsOnce {P A : Type 0} (at : P → List Call → Type 0) (others : Call → Type 0) (refuses : TryFault → P → P → Type 0) (exchanges : P → ℕ) (lent : P → Option ℕ) (aside : P → A) (d : DrainingState) (p : P) (before : SinkState) (result : Result Progress TryFault) (d' : DrainingState) (p' : P) (after : SinkState) : Type 0 where
+pub record DrainsOnce {P A : Type 0} (at : P → List Call → Type 0) (others : Call → Type 0) (refuses : TryFault → P → P → Type 0) (tally : P → Tally) (lent : P → Option ℕ) (aside : P → A) (d : DrainingState) (p : P) (before : SinkState) (result : Result Progress TryFault) (d' : DrainingState) (p' : P) (after : SinkState) : Type 0 where
   pub gain : List ℕ
   pub gained : GainsBy d.owed (has_failed result d') before gain after
-  pub cause : (h : List Call) (text : List ℕ) → at p h → HasPassed d h text → StepsTo at others refuses exchanges d h text gain p result d' p'
+  pub cause : (h : List Call) (text : List ℕ) → at p h → HasPassed d h text → StepsTo at others refuses tally d h text gain p result d' p'
   pub job : d'.drained.job ≡ d.drained.job
   pub kept : aside p' ≡ aside p
-  pub exchanged : exchanges p ≤ exchanges p'
+  pub spent : IfOk result (λ _. Spends 0 (tally p) (tally p'))
   -- So the next step may come, if this one isn't the last.
   pub lends : IfMore result (lent p' ≡ lent_for d'.owed)
   pub within : IsWithin d'.owed

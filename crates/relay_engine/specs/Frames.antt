@@ -1,5 +1,5 @@
 -- What is written of the frames of some bytes.
-use Rattle.std.specs.Prelude.{ℕ, ◌≡◌, ◌<◌, ◌≤◌, ◌*◌, ◌-◌, ◌^◌, min, Bool, List, [], ◌∷◌, ◌++◌, length, drop, take, position, IsNone}
+use Rattle.std.specs.Prelude.{ℕ, ◌≡◌, ◌<◌, ◌≤◌, ◌-◌, ◌^◌, min, Bool, List, [], ◌∷◌, ◌++◌, length, drop, take, position, IsNone}
 use Rattle.std.specs.Io.KnownBytes.{Appends}
 use mathlib.Core.List.{IsPrefix}
 use Rattle.edge_core.specs.Device.{SinkState, Takes, HasRisen}
@@ -20,14 +20,12 @@ abbrev pub capped : ℕ → ℕ
 capped n = min n (2 ^ 64 - 1)
 
 -- The first `len` bytes are so many frames, and this is their text in the output. Whatever may come, the translation goes
--- on behind them. A frame that is spelt anew has at most five times its bytes.
+-- on behind them.
 pub record Passes (job : Job) (bytes : List ℕ) (at_end : Bool) (len frames : ℕ) (text : List ℕ) : Type 0 where
   pub within : len ≤ length bytes
   pub payloads : List (List ℕ)
   pub counted : frames ≡ length payloads
   pub spelt : text ≡ text_of job.output payloads
-  pub few : frames ≤ len
-  pub bounded : length text ≤ 5 * len
   pub listed : (z : List ℕ) (b : Bool) → MayCome at_end z b → payloads_of job (bytes ++ z) b ≡ payloads ++ payloads_of job (drop len bytes ++ z) b
   pub goes_on : (z : List ℕ) (b : Bool) → MayCome at_end z b → translation job (bytes ++ z) b ≡ behind text len (translation job (drop len bytes ++ z) b)
 
@@ -74,14 +72,12 @@ pub record Breaks (job : Job) (bytes : List ℕ) (at_end : Bool) (before : SinkS
   pub written : Appends before.written after.written (text ++ part)
   pub risen : HasRisen before.faults after.faults
   pub counted : broken.written ≡ capped (length (text ++ part))
-  pub bounded : length (text ++ part) ≤ 5 * length bytes
 
 -- A call of the sink failed. A front of what is to be written came to it, of so many bytes, and not all.
 pub record Interrupts (job : Job) (bytes : List ℕ) (at_end : Bool) (before : SinkState) (passed : ℕ) (after : SinkState) : Type 0 where
   pub short : passed < length (translation job bytes at_end).text
   pub written : Appends before.written after.written (take passed (translation job bytes at_end).text)
   pub risen : HasRisen before.faults after.faults
-  pub bounded : passed ≤ 5 * length bytes
 
 -- So many frames are whole in the first `written` bytes of what is to be written. Behind them is a part of the next one.
 pub record CountsWhole (job : Job) (bytes : List ℕ) (at_end : Bool) (written frames : ℕ) : Type 0 where

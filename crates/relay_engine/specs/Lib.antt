@@ -4,6 +4,7 @@ pub mod Spelling
 pub mod Tell
 pub mod Ends
 pub mod Later
+pub mod Tally
 pub mod LocalEnds
 pub mod ReaderEnds
 pub mod WriterEnds
@@ -18,3 +19,4 @@ pub mod Filling
 pub mod PipeFiller
 pub mod Draining
 pub mod PipeDrainer
+pub mod SoFar

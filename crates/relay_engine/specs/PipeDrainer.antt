@@ -16,8 +16,9 @@ use Rattle.pipe_shared.specs.Heard.{CallsBehind, Hears}
 use Rattle.pipe_shared.specs.Ends.{Reader}
 use Rattle.relay_engine.specs.Ending.{is_sink_fault}
 use Rattle.relay_engine.specs.Drainer.{end_code}
-use Rattle.relay_engine.specs.ReaderEnds.{RefusesReader, exchanges_of, lent_len}
+use Rattle.relay_engine.specs.ReaderEnds.{RefusesReader, lent_len, reader_tally}
 use Rattle.relay_engine.specs.Sides.{Concludes}
+use Rattle.relay_engine.specs.Tally.{Spends, tally_of}
 use Rattle.relay_engine.specs.Draining.{DrainingState, GainsBy, HasPassed, Idles, IsRefused, IsWithin, MovesBy, lent_for, owes_fault}
 use Rattle.relay_engine.specs.declared.drain_end.DrainEnd.{DrainEnd}
 use Rattle.relay_engine.specs.declared.draining.Owed.{Owed}
@@ -61,17 +62,25 @@ pub record IsDone (d : DrainerState) (end : DrainEnd) (text : List ℕ) : Type 0
   pub calls : List Call
   pub own : seat.own ≡ calls ++ EndReader (end_code end) ∷ []
 
+-- Its reader, while it has not completed, has written some text.
+abbrev pub IsDrainer : DrainerState → Type 0
+IsDrainer d = (reader : Reader) → d.end ≡ Some reader → (text : List ℕ) × IsDraining d text
+
 -- All that its steps have begun is done.
 abbrev pub OwesNothing : DrainerState → Type 0
 OwesNothing d = (d.ending ≡ None) × (d.draining.owed ≡ None)
 
+-- Nothing was written yet.
+abbrev pub IsUnwritten : DrainerState → Type 0
+IsUnwritten d = OwesNothing d × (d.draining.drained.written ≡ 0)
+
 -- What a step came to, of a drainer whose end was `r`: with it the drainer has written this text.
 abbrev pub BehindStep : DrainStep → DrainerState → Reader → List ℕ → DrainerState → List ℕ → Type 0
-BehindStep (Done end) d r gain d' text = IsDone d' end text
-BehindStep (Idle examined) d r gain d' text = (to : IsDraining d' text) × Idles NotReaders d.draining (seen_by r) gain examined d'.draining (seen_by to.reader) × OwesNothing d'
-BehindStep (Moved frames) d r gain d' text = (to : IsDraining d' text) × MovesBy NotReaders d.draining.owed d.draining (seen_by r) frames d'.draining (seen_by to.reader) × OwesNothing d'
-BehindStep (Busy word) d r gain d' text = (to : IsDraining d' text) × IsRefused RefusesReader exchanges_of (try.Busy word) r to.reader
-BehindStep (Worn entries) d r gain d' text = (to : IsDraining d' text) × IsRefused RefusesReader exchanges_of (try.Worn entries) r to.reader
+BehindStep (Done end) d r gain d' text = (done : IsDone d' end text) × Spends 0 (reader_tally r) (tally_of done.seat)
+BehindStep (Idle examined) d r gain d' text = (to : IsDraining d' text) × Idles NotReaders d.draining (seen_by r) gain examined d'.draining (seen_by to.reader) × OwesNothing d' × Spends 0 (reader_tally r) (reader_tally to.reader)
+BehindStep (Moved frames) d r gain d' text = (to : IsDraining d' text) × MovesBy NotReaders d.draining.owed d.draining (seen_by r) frames d'.draining (seen_by to.reader) × OwesNothing d' × Spends 0 (reader_tally r) (reader_tally to.reader)
+BehindStep (Busy word) d r gain d' text = (to : IsDraining d' text) × IsRefused RefusesReader reader_tally (try.Busy word) r to.reader
+BehindStep (Worn entries) d r gain d' text = (to : IsDraining d' text) × IsRefused RefusesReader reader_tally (try.Worn entries) r to.reader
 
 -- an end for a call of the sink that failed is owed
 abbrev pub owes_end : Option DrainEnd → Option Owed → Bool
@@ -109,6 +118,7 @@ pub record EndsReader (code : ℕ) (r : Reader) (seat : Seat) : Type 0 where
   pub behind : CallsBehind options 1 (seen_by r) (EndReader code ∷ []) (Woke wake) (calls_of seat.seen)
   pub calls : List Call
   pub own : seat.own ≡ calls ++ EndReader code ∷ []
+  pub spent : Spends 0 (reader_tally r) (tally_of seat)
 
 -- A completion of the reader was refused.
 pub record RefusesToEnd (fault : TryFault) (end : DrainEnd) (d : DrainingState) (r : Reader) (d' : DrainerState) : Type 0 where

@@ -1,26 +1,27 @@
 -- What a filler does by a step on a pipe that two threads use.
-use Rattle.std.specs.Prelude.{ℕ, ◌≡◌, ◌<◌, ◌≤◌, ◌+◌, ◌^◌, ◌⊎◌, Bool, true, false, List, [], ◌∷◌, ◌++◌, length, map, Option, None, Some, Result, Ok, Err, IfSome}
+use Rattle.std.specs.Prelude.{ℕ, ◌≡◌, ◌≤◌, ◌^◌, Bool, true, false, List, [], ◌∷◌, ◌++◌, length, map, Option, None, Some, Result, Ok, Err, IfSome}
 use Rattle.std.specs.List.{flat_map}
-use Rattle.std.specs.Io.KnownBytes.{IsAtEnd}
-use Rattle.edge_core.specs.Device.{SourceState, Gives, Fails}
+use Rattle.edge_core.specs.Device.{SourceState}
 use Rattle.relay_model.specs.declared.ending.FillEnd.{FillEnd}
 use Rattle.relay_model.specs.declared.ending.FillEnd.TheVariants as taking
-use Rattle.pipe_core.specs.declared.reply.FlushReply.TheVariants as flush
+use Rattle.turn_cell.specs.Seat.{CellState}
 use Rattle.pipe_core.specs.History.{Run, Call, Commit, EndWriter, bytes_of, reader_end}
 use Rattle.pipe_core.specs.Legal.{IsLegal}
-use Rattle.pipe_shared.specs.declared.options.Options.{Options}
+use Rattle.pipe_shared.specs.declared.faults.Full as room
 use Rattle.pipe_shared.specs.declared.faults.TryFault.{TryFault}
 use Rattle.pipe_shared.specs.declared.faults.TryFault.TheVariants as try
+use Rattle.pipe_shared.specs.Name.{Name}
 use Rattle.pipe_shared.specs.Log.{calls_of}
 use Rattle.pipe_shared.specs.Turns.{Seat, Refuses, FindsHeld, FindsWorn}
 use Rattle.pipe_shared.specs.Ends.{Writer}
-use Rattle.pipe_shared.specs.Granting.{FindsFull}
 use Rattle.pipe_shared.specs.Attempts.{completed}
-use Rattle.relay_engine.specs.Ends.{GivesOneMore}
 use Rattle.relay_engine.specs.Filler.{written, fill_code}
 use Rattle.relay_engine.specs.Later.{Later, HearsLater}
-use Rattle.relay_engine.specs.Filling.{FillingState, GoesOn, HasTaken, Meets, OrCommits, Replied}
-use Rattle.relay_engine.specs.WriterEnds.{HasWritten, IsOthers, drafting}
+use Rattle.relay_engine.specs.Tally.{Spends, tally_of}
+use Rattle.relay_engine.specs.Filling.{FillingState, FillsOn, HasTaken}
+use Rattle.relay_engine.specs.WriterEnds.{FindsNoRoom, HasWritten, IsOthers, RefusesWriter, drafting}
+use Rattle.relay_engine.specs.declared.filling.Filled.{Filled}
+use Rattle.relay_engine.specs.declared.filling.Filled.TheVariants as filled
 use Rattle.relay_engine.specs.declared.pipe_filler.FillerEnd.{FillerEnd}
 use Rattle.relay_engine.specs.declared.pipe_filler.FillerEnd.TheVariants.{Open, Closed}
 use Rattle.relay_engine.specs.declared.pipe_filler.FillStep.{FillStep}
@@ -71,15 +72,6 @@ pub record IsFiller (f : FillingState) (end : FillerEnd) (ending : Option FillEn
   pub settled : IfSome ending (λ _. (writer_in end).draft ≡ [])
   pub gone : (code : ℕ) → ending ≡ Some (taking.Gone code) → reader_end (seen_by (writer_in end)) ≡ Some code
 
--- What a source lost by a step: the bytes that were taken, and what is said of the end of the taking, where that came with the step.
-abbrev pub Loses : ℕ → List ℕ → Option FillEnd → Option FillEnd → SourceState → List ℕ → SourceState → Type 0
-Loses limit bytes None None before taken after = Gives before taken after
-Loses limit bytes None (Some taking.End) before taken after = (taken ≡ []) × Gives before [] after × IsAtEnd after.left
-Loses limit bytes None (Some taking.Fault) before taken after = (taken ≡ []) × Fails before after
-Loses limit bytes None (Some taking.Long) before taken after = (taken ≡ []) × (length bytes ≡ limit) × GivesOneMore before after
-Loses limit bytes None (Some (taking.Gone code)) before taken after = Gives before taken after
-Loses limit bytes (Some end) ending before taken after = (ending ≡ Some end) × (taken ≡ []) × (after ≡ before)
-
 -- The writer has completed for this end, behind commits alone, by which all that was taken is committed.
 pub record HasEnded (end : FillEnd) (w : Writer) : Type 0 where
   pub found : List Call
@@ -89,25 +81,10 @@ pub record HasEnded (end : FillEnd) (w : Writer) : Type 0 where
   pub own : w.seat.own ≡ map (λ runs. Commit runs) commits ++ EndWriter (fill_code end) ∷ []
   pub bytes : flat_map bytes_of commits ≡ all_of w
 
--- why a step answered so
-abbrev pub Tells : Options → FillStep → FillerState → List ℕ → FillerState → Type 0
-Tells options (Moved n) old taken new =
-    (n ≡ length (bytes_of old.end.draft) + length taken) × (0 < n) × ((canceled : Bool) × Replied IsOthers options (flush.Ready canceled None) old.owed old.end.draft (seen_by old.end) taken (seen_by new.end))
-Tells options (Paused unexamined) old taken new = Replied IsOthers options (flush.Pending unexamined) old.owed old.end.draft (seen_by old.end) taken (seen_by new.end)
-Tells options (Full full) old taken new = Meets drafting (FindsFull options 1 full) old.end new.end
-Tells options (Busy word) old taken new = Meets drafting (λ found w. FindsHeld word found.seat w.seat) old.end new.end
-Tells options (Worn entries) old taken new = Meets drafting (λ found w. FindsWorn entries found.seat w.seat) old.end new.end
-Tells options (Done end) old taken new = (new.ending ≡ Some end) × HasEnded end new.end
-
 -- whether the writer has completed behind a step
 abbrev pub is_done : FillStep → Bool
 is_done (Done end) = true
 is_done step = false
-
--- What a step has added to what its end had seen: commits among others' calls, and at the last step the completion behind them.
-abbrev pub Adds : FillStep → List Call → List Call → Type 0
-Adds (Done end) h k = (found : List Call) × (k ≡ EndWriter (fill_code end) ∷ found) × Later (OrCommits IsOthers) h found
-Adds step h k = Later (OrCommits IsOthers) h k
 
 -- whether a commit is owed, where a step says so
 abbrev pub OwesBy : FillStep → Bool → Type 0
@@ -123,42 +100,53 @@ IfAnswered (Busy word) P = Unit {0}
 IfAnswered (Worn entries) P = Unit {0}
 IfAnswered step P = P
 
--- One step. All that was taken before stays, and behind it stands what this step took.
-pub record StepsOn (options : Options) (old : FillerState) (before : SourceState) (step : FillStep) (new : FillerState) (after : SourceState) : Type 0 where
-  pub taken : List ℕ
-  pub all : all_of new.end ≡ all_of old.end ++ taken
-  pub loses : Loses old.limit (all_of old.end) old.ending new.ending before taken after
-  -- Where a commit is owed, the source is asked for nothing before that has gone through.
-  pub on : old.owed ≡ true → (after ≡ before) ⊎ GoesOn IsOthers options old.end.draft (seen_by old.end) (seen_by new.end)
-  pub told : Tells options step old taken new
+-- The completion was made, or refused. What was taken stays.
+abbrev pub CompletesBy : FillStep → FillEnd → Writer → Writer → Type 0
+CompletesBy (Done told) end w w' = (told ≡ end) × HasEnded end w' × (all_of w' ≡ all_of w) × Spends 0 (tally_of w.seat) (tally_of w'.seat)
+CompletesBy (Busy word) end w w' = FindsHeld word w.seat w'.seat × (all_of w' ≡ all_of w)
+CompletesBy (Worn entries) end w w' = FindsWorn entries w.seat w'.seat × (all_of w' ≡ all_of w)
+CompletesBy step end w w' = ⊥
 
--- ---- the parts of a step
+-- What stands behind the part that knows no pipe, which has left the end so: where the taking has ended by it, an attempt at the
+-- completion, and else nothing.
+abbrev pub Follows : Result (Filled room.Full) TryFault → Writer → FillStep → FillerState → Type 0
+Follows (Ok (filled.Moved n)) w step new = (step ≡ Moved n) × (new.end ≡ w) × (new.ending ≡ None)
+Follows (Ok (filled.Paused unexamined)) w step new = (step ≡ Paused unexamined) × (new.end ≡ w) × (new.ending ≡ None)
+Follows (Ok (filled.Full full)) w step new = (step ≡ Full full) × (new.end ≡ w) × (new.ending ≡ None)
+Follows (Ok (filled.Ended end)) w step new = (new.ending ≡ Some end) × CompletesBy step end w new.end
+Follows (Err (try.Busy word)) w step new = (step ≡ Busy word) × (new.end ≡ w) × (new.ending ≡ None)
+Follows (Err (try.Worn entries)) w step new = (step ≡ Worn entries) × (new.end ≡ w) × (new.ending ≡ None)
 
--- The taking ends with this step, or had ended before.
-pub record EndsBy (options : Options) (end : FillEnd) (old : FillerState) (before : SourceState) (new : FillerState) (after : SourceState) : Type 0 where
-  pub taken : List ℕ
-  pub all : all_of new.end ≡ all_of old.end ++ taken
-  pub loses : Loses old.limit (all_of old.end) old.ending new.ending before taken after
-  pub on : old.owed ≡ true → (after ≡ before) ⊎ GoesOn IsOthers options old.end.draft (seen_by old.end) (seen_by new.end)
-  pub ending : new.ending ≡ Some end
-  pub behind : old.end.seat.exchanges ≤ new.end.seat.exchanges
+-- One step of the part that knows no pipe, and what follows.
+pub record TakesOn (pipe : CellState Name) (old : FillerState) (before : SourceState) (step : FillStep) (new : FillerState) (after : SourceState) : Type 0 where
+  pub answer : Result (Filled room.Full) TryFault
+  pub writer : Writer
+  pub fills : FillsOn HasWritten IsOthers drafting RefusesWriter pipe.name.options (FindsNoRoom pipe) (filling_of old) old.end before answer (filling_of new) writer after (seen_by old.end) (all_of old.end)
+  pub follows : Follows answer writer step new
 
-abbrev pub TakesOn : Options → FillerState → SourceState → Result FillStep FillEnd → FillerState → SourceState → Type 0
-TakesOn options old before (Ok step) new after = StepsOn options old before step new after × (is_done step ≡ false)
-TakesOn options old before (Err end) new after = EndsBy options end old before new after
+-- One step, by whether the taking had ended. Once it has nothing is read, and the completion alone is tried.
+abbrev pub StepsFrom : Option FillEnd → CellState Name → FillerState → SourceState → FillStep → FillerState → SourceState → Type 0
+StepsFrom None pipe old before step new after = TakesOn pipe old before step new after
+StepsFrom (Some end) pipe old before step new after = (after ≡ before) × (filling_of new ≡ filling_of old) × (new.ending ≡ Some end) × CompletesBy step end old.end new.end
+
+abbrev pub StepsOn : CellState Name → FillerState → SourceState → FillStep → FillerState → SourceState → Type 0
+StepsOn pipe old before step new after = StepsFrom old.ending pipe old before step new after
+
+-- The taking has ended by the step of the part that knows no pipe, or had ended before.
+abbrev pub EndsFrom : Option FillEnd → CellState Name → FillEnd → FillerState → SourceState → FillerState → SourceState → Type 0
+EndsFrom None pipe end old before new after = FillsOn HasWritten IsOthers drafting RefusesWriter pipe.name.options (FindsNoRoom pipe) (filling_of old) old.end before (Ok (filled.Ended end)) (filling_of new) new.end after (seen_by old.end) (all_of old.end)
+EndsFrom (Some was) pipe end old before new after = (end ≡ was) × (new ≡ old) × (after ≡ before)
+
+-- What stands before the completion: the whole step, or the end of the taking.
+abbrev pub TakesOrEnds : CellState Name → FillerState → SourceState → Result FillStep FillEnd → FillerState → SourceState → Type 0
+TakesOrEnds pipe old before (Ok step) new after = StepsOn pipe old before step new after × (is_done step ≡ false)
+TakesOrEnds pipe old before (Err end) new after = EndsFrom old.ending pipe end old before new after × (new.ending ≡ Some end)
 
 -- how a step answers behind an attempt at the completion
 abbrev pub closed_as : FillEnd → Result (Unit {0}) TryFault → FillStep
 closed_as end (Ok done) = Done end
 closed_as end (Err (try.Busy word)) = Busy word
 closed_as end (Err (try.Worn entries)) = Worn entries
-
--- The completion was made, or refused.
-abbrev pub CompletesBy : FillStep → FillEnd → Writer → Writer → Type 0
-CompletesBy (Done reason) end w w' = (reason ≡ end) × HasEnded end w' × (all_of w' ≡ all_of w)
-CompletesBy (Busy word) end w w' = FindsHeld word w.seat w'.seat × (all_of w' ≡ all_of w)
-CompletesBy (Worn entries) end w w' = FindsWorn entries w.seat w'.seat × (all_of w' ≡ all_of w)
-CompletesBy step end w w' = ⊥
 
 -- ---- the completion
 
@@ -171,6 +159,7 @@ pub record Completes (code : ℕ) (w : Writer) (seat : Seat) : Type 0 where
   pub commits : List (List Run)
   pub own : seat.own ≡ map (λ runs. Commit runs) commits ++ EndWriter code ∷ []
   pub bytes : flat_map bytes_of commits ≡ written found
+  pub spent : Spends 0 (tally_of w.seat) (tally_of seat)
 
 -- It may be completed: nothing is drafted, and what was committed is no more than a filler takes.
 pub record MayClose (w : Writer) : Type 0 where
@@ -180,5 +169,5 @@ pub record MayClose (w : Writer) : Type 0 where
 
 abbrev pub Closes : ℕ → FillerEnd → Result (Unit {0}) TryFault → FillerEnd → Type 0
 Closes code (Open w) (Ok done) (Closed seat) = Completes code w seat
-Closes code (Open w) (Err fault) (Open w') = Refuses fault w.seat w'.seat × (w'.draft ≡ w.draft) × HearsLater HasWritten IsOthers (seen_by w) w' × (w.seat.exchanges ≤ w'.seat.exchanges)
+Closes code (Open w) (Err fault) (Open w') = Refuses fault w.seat w'.seat × (w'.draft ≡ w.draft) × HearsLater HasWritten IsOthers (seen_by w) w'
 Closes code old result new = ⊥

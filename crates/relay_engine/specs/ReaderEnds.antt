@@ -10,6 +10,7 @@ use Rattle.pipe_shared.specs.Log.{calls_of}
 use Rattle.pipe_shared.specs.Turns.{Refuses}
 use Rattle.pipe_shared.specs.Ends.{Reader}
 use Rattle.pipe_shared.specs.Local.{Local}
+use Rattle.relay_engine.specs.Tally.{Tally, no_tally, tally_of}
 
 -- What no history tells: the options, and what is drafted.
 pub record Aside : Type 0 where
@@ -32,8 +33,8 @@ RefusesReader fault old new = Refuses fault old.seat new.seat
 abbrev pub lent_len : Reader → Option ℕ
 lent_len r = option_map length r.lent
 
-abbrev pub exchanges_of : Reader → ℕ
-exchanges_of r = r.seat.exchanges
+abbrev pub reader_tally : Reader → Tally
+reader_tally r = tally_of r.seat
 
 -- A reader sees nothing of the writer's own.
 abbrev pub nothing_aside : Reader → Option Aside
@@ -45,9 +46,8 @@ nothing_aside r = None
 abbrev pub IsAttended : Unit {0} → Local → Type 0
 IsAttended pipe p = IsNone p.pipe.control.gone
 
--- There is no turn to take.
-abbrev pub no_exchanges : Local → ℕ
-no_exchanges p = 0
+abbrev pub local_tally : Local → Tally
+local_tally p = no_tally
 
 abbrev pub lent_local : Local → Option ℕ
 lent_local p = p.pipe.control.lent

@@ -1,5 +1,5 @@
 -- What each side of a relay has done to its end of a pipe once it has ended.
-use Rattle.std.specs.Prelude.{ℕ, ◌≡◌, ◌≢◌, ◌≤◌, ◌*◌, false, List, [], ◌∷◌, ◌++◌, length, map, flat_map, Option, Some}
+use Rattle.std.specs.Prelude.{ℕ, ◌≡◌, ◌≢◌, false, List, [], ◌∷◌, ◌++◌, length, map, flat_map, Option, Some}
 use mathlib.Core.List.{IsPrefix}
 use Rattle.std.specs.Io.KnownBytes.{Appends}
 use Rattle.edge_core.specs.Device.{SourceState, SinkState, Takes, HasRisen}
@@ -8,10 +8,10 @@ use Rattle.relay_model.specs.declared.ending.FillEnd.{FillEnd}
 use Rattle.relay_model.specs.declared.ending.FillEnd.TheVariants as taking
 use Rattle.relay_model.specs.Run.{IsTaken, frames_in}
 use Rattle.pipe_core.specs.History.{Run, Call, Commit, EndWriter, EndReader, bytes_of, reader_end, writer_end}
-use Rattle.pipe_core.specs.Progress.{total}
+use Rattle.pipe_core.specs.Progress.{total, consumed}
 use Rattle.pipe_shared.specs.Log.{calls_of}
 use Rattle.pipe_shared.specs.Turns.{Seat}
-use Rattle.relay_engine.specs.Frames.{capped}
+use Rattle.relay_engine.specs.Frames.{Passes, capped}
 use Rattle.relay_engine.specs.Filler.{fill_code}
 use Rattle.relay_engine.specs.Drainer.{end_code, is_whole, translated}
 use Rattle.relay_engine.specs.Ending.{is_sink_fault, verdict_for}
@@ -45,9 +45,10 @@ pub record Concludes (job : Job) (frames written : ℕ) (h : List Call) (text : 
   pub whole : is_sink_fault end ≡ false → text ≡ (translated job h).text
   pub verdict : is_sink_fault end ≡ false → (translated job h).verdict ≡ verdict_for end
   pub ended : IsEndedFor end (writer_end h)
+  -- where nothing failed, the advances have passed just what was written
+  pub passed : is_sink_fault end ≡ false → Passes job (total h) (is_whole h) (consumed h) frames text
   pub frames_told : frames ≡ frames_in job (total h) (is_whole h) text
   pub written_told : written ≡ capped (length text)
-  pub bounded : length text ≤ 5 * length (total h)
 
 -- A text came to a sink, of which a write or a flush failed where the end says so.
 abbrev pub GainsUntil : DrainEnd → SinkState → List ℕ → SinkState → Type 0

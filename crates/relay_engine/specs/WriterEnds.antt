@@ -13,6 +13,7 @@ use Rattle.pipe_shared.specs.Ends.{Writer}
 use Rattle.pipe_shared.specs.Granting.{FindsFull}
 use Rattle.pipe_shared.specs.Local.{Local, IsFull}
 use Rattle.relay_engine.specs.Filling.{Drafting}
+use Rattle.relay_engine.specs.Tally.{no_tally, tally_of}
 
 -- A writing end is one of this pipe's.
 abbrev pub IsWriterOf : CellState Name → Writer → Type 0
@@ -27,7 +28,7 @@ abbrev pub IsOthers : Call → Type 0
 IsOthers call = seat_of call ≢ 0
 
 abbrev pub drafting : Writer → Drafting
-drafting w = record { draft = w.draft; room = length w.free; exchanges = w.seat.exchanges; reading = None }
+drafting w = record { draft = w.draft; room = length w.free; tally = tally_of w.seat; reading = None }
 
 abbrev pub options_of : CellState Name → Writer → Options
 options_of pipe w = pipe.name.options
@@ -47,7 +48,7 @@ abbrev pub local_drafting : Local → Drafting
 local_drafting p = record {
   draft = run_in 0 p.pipe.bytes.draft;
   room = length p.pipe.bytes.free;
-  exchanges = 0;
+  tally = no_tally;
   reading = Some (record { lent = p.pipe.control.lent; gone = p.pipe.control.gone });
 }
 

@@ -1,6 +1,6 @@
 //! What a drainer asks of the reading end of a pipe. It knows no more of it, and so not which pipe it runs on.
 
-ghost use Rattle.std.specs.Prelude.{◌≡◌, ◌≢◌, ◌≤◌, ℕ, List, ◌∷◌, length, Some, None, Option, IsSome, IfOk, IfErr};
+ghost use Rattle.std.specs.Prelude.{◌≡◌, ◌≢◌, ℕ, List, ◌∷◌, length, Some, None, Option, IsSome, IfOk, IfErr};
 ghost use Rattle.span_seq.specs.Sequence.{bytes};
 ghost use Rattle.pipe_core.specs.History.{Call, Read, Advance, seat_of};
 ghost use Rattle.pipe_core.specs.Reads.{reply_to_read};
@@ -10,6 +10,7 @@ ghost use Rattle.pipe_shared.specs.declared.faults.TryFault.{TryFault};
 ghost use Rattle.relay_engine.specs.Ends.{lent_by};
 ghost use Rattle.relay_engine.specs.Later.{CallsLater, HearsLater};
 ghost use Rattle.relay_engine.specs.ReaderEnds.{Aside};
+ghost use Rattle.relay_engine.specs.Tally.{Spends, Tally};
 
 use pipe_core::ReadReply;
 use pipe_shared::TryFault;
@@ -38,8 +39,8 @@ pub trait DrainPipe {
     /// The length of what is lent, where a lend stands.
     ghost lent: { Self → Option ℕ };
 
-    /// How many exchanges it has made with its pipe.
-    ghost exchanges: { Self → ℕ };
+    /// How often it has turned to its pipe.
+    ghost tally: { Self → Tally };
 
     /// What its calls leave as it is, of what no history tells.
     ghost aside: { Self → Option Aside };
@@ -54,7 +55,7 @@ pub trait DrainPipe {
         ensures heard { IfErr result (λ fault. (h : List Call) → at self.old h → HearsLater at others h self.new) }
         ensures refused { IfErr result (λ fault. refuses fault self.old self.new) }
         ensures kept { IfErr result (λ fault. lent self.new ≡ lent self.old) }
-        ensures exchanges { exchanges self.old ≤ exchanges self.new }
+        ensures tally { IfOk result (λ _. Spends 0 (tally self.old) (tally self.new)) }
         ensures aside { aside self.new ≡ aside self.old };
 
     /// The bytes that the last read lent, in place.
@@ -73,7 +74,7 @@ pub trait DrainPipe {
         ensures heard { IfErr result (λ fault. (h : List Call) → at self.old h → HearsLater at others h self.new) }
         ensures refused { IfErr result (λ fault. refuses fault self.old self.new) }
         ensures kept { IfErr result (λ fault. lent self.new ≡ lent self.old) }
-        ensures exchanges { exchanges self.old ≤ exchanges self.new }
+        ensures tally { IfOk result (λ _. Spends 0 (tally self.old) (tally self.new)) }
         ensures aside { aside self.new ≡ aside self.old };
 
     /// What others call isn't the reader's.

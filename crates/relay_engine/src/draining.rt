@@ -1,12 +1,13 @@
 //! The part of a drainer that doesn't know which pipe it runs on.
 
-ghost use Rattle.std.specs.Prelude.{◌≡◌, ◌≤◌, ℕ, List, length, Some, None, IsSome};
+ghost use Rattle.std.specs.Prelude.{◌≡◌, ◌≤◌, ℕ, List, length, Some, None, IsSome, IfOk};
 ghost use Rattle.pipe_core.specs.History.{Call};
 ghost use Rattle.pipe_core.specs.Legal.{IsLegal};
 ghost use Rattle.span_seq.specs.Sequence.{bytes};
 ghost use Rattle.pipe_core.specs.Lends.{lend};
 ghost use Rattle.relay_engine.specs.Drainer.{IsDrained, is_success as is_success_code};
 ghost use Rattle.relay_engine.specs.Passing.{IsKnown, added, end_at};
+ghost use Rattle.relay_engine.specs.Tally.{Spends};
 ghost use Rattle.relay_engine.specs.Draining.{AdvancesTo, DrainsOnce, EndsOwed, HasPassed, IfMore, IsWithin, Owes, PassesLend, has_failed, is_fault, lent_for};
 
 use crate::drain_end::DrainEnd;
@@ -113,7 +114,7 @@ impl Draining {
         requires within { IsWithin self.old.owed }
         requires own { (h : List Call) × (text : List ℕ) × P.at end.old h × HasPassed self.old h text }
         ensures may { P.may_call pipe.now end.new }
-        ensures step { DrainsOnce P.at P.others P.refuses P.exchanges P.lent P.aside self.old end.old (K.state sink.old) result self.new end.new (K.state sink.new) }
+        ensures step { DrainsOnce P.at P.others P.refuses P.tally P.lent P.aside self.old end.old (K.state sink.old) result self.new end.new (K.state sink.new) }
     {
         match self.owed {
             Some(owed) => self.advance(owed, pipe, end),
@@ -132,7 +133,7 @@ impl Draining {
         requires no_lend { P.lent end.old ≡ None }
         requires own { (h : List Call) × (text : List ℕ) × P.at end.old h × IsDrained self.old.drained h text }
         ensures may { P.may_call pipe.now end.new }
-        ensures step { DrainsOnce P.at P.others P.refuses P.exchanges P.lent P.aside self.old end.old (K.state sink.old) result self.new end.new (K.state sink.new) }
+        ensures step { DrainsOnce P.at P.others P.refuses P.tally P.lent P.aside self.old end.old (K.state sink.old) result self.new end.new (K.state sink.new) }
     {
         match end.read(pipe) {
             Err(fault) => Err(fault),
@@ -200,7 +201,7 @@ impl Draining {
         ensures advanced { (h : List Call) (text : List ℕ) → P.at end.old h → Owes self.old.drained owed h text →
             AdvancesTo P.at P.others P.refuses self.old owed h text end.old result self.new end.new }
         ensures drained { self.new.drained ≡ self.old.drained }
-        ensures exchanges { P.exchanges end.old ≤ P.exchanges end.new }
+        ensures tally { IfOk result (λ _. Spends 0 (P.tally end.old) (P.tally end.new)) }
         ensures aside { P.aside end.new ≡ P.aside end.old }
         ensures lends { IfMore result (P.lent end.new ≡ lent_for self.new.owed) }
         ensures within { IsWithin self.new.owed }

@@ -7,7 +7,8 @@ ghost use Rattle.pipe_shared.specs.declared.options.Options.{Options};
 ghost use Rattle.pipe_shared.specs.declared.faults.TryFault.{TryFault};
 ghost use Rattle.relay_engine.specs.Filler.{written};
 ghost use Rattle.relay_engine.specs.Later.{CallsLater, HearsLater};
-ghost use Rattle.relay_engine.specs.Filling.{Drafting, Drafts, RefusesRoomTo};
+ghost use Rattle.relay_engine.specs.Filling.{Drafting, Drafts, IsGranted, RefusesRoomTo};
+ghost use Rattle.relay_engine.specs.Tally.{Spends};
 
 use edge_core::Source;
 use pipe_core::FlushReply;
@@ -60,7 +61,7 @@ pub trait FillPipe {
         ensures some { IfOk result (λ _. 0 < (writer self.new).room) }
         ensures refused { IfErr result (λ fault. RefusesRoomTo (is_full pipe.now) refuses fault self.old self.new) }
         ensures draft { (writer self.new).draft ≡ (writer self.old).draft }
-        ensures exchanges { (writer self.old).exchanges ≤ (writer self.new).exchanges }
+        ensures granted { IfOk result (λ _. IsGranted (writer self.old) (writer self.new)) }
         ensures reading { (writer self.new).reading ≡ (writer self.old).reading }
         ensures options { options pipe.now self.new ≡ options pipe.now self.old };
 
@@ -71,7 +72,7 @@ pub trait FillPipe {
         ensures may { (pipe : Self.Pipe) → may_call pipe self.old → may_call pipe self.new }
         ensures at { (h : List Call) → at self.old h → at self.new h }
         ensures drafts { Drafts left (S.state source.old) (writer self.old).draft result (writer self.new).draft (S.state source.new) }
-        ensures exchanges { (writer self.new).exchanges ≡ (writer self.old).exchanges }
+        ensures tally { (writer self.new).tally ≡ (writer self.old).tally }
         ensures reading { (writer self.new).reading ≡ (writer self.old).reading }
         ensures options { (pipe : Self.Pipe) → options pipe self.new ≡ options pipe self.old };
 
@@ -88,7 +89,7 @@ pub trait FillPipe {
         ensures heard { IfErr result (λ _. (h : List Call) → at self.old h → HearsLater at others h self.new) }
         ensures refused { IfErr result (λ fault. refuses fault self.old self.new) }
         ensures kept { IfErr result (λ _. (writer self.new).draft ≡ (writer self.old).draft) }
-        ensures exchanges { (writer self.old).exchanges ≤ (writer self.new).exchanges }
+        ensures tally { IfOk result (λ _. Spends 0 (writer self.old).tally (writer self.new).tally) }
         ensures reading { (writer self.new).reading ≡ (writer self.old).reading }
         ensures options { options pipe.now self.new ≡ options pipe.now self.old };
 

@@ -2,7 +2,7 @@
 
 ghost use Rattle.std.specs.Prelude.{◌≡◌, ◌≤◌, ◌^◌, false, true, ℕ, List, [], IfOk};
 ghost use Rattle.pipe_core.specs.History.{Call};
-ghost use Rattle.relay_engine.specs.Filling.{FillsOn, HasTaken, Settles, owes};
+ghost use Rattle.relay_engine.specs.Filling.{FillsOn, HasTaken, Settles, TakesBy, owes};
 
 use crate::fill_pipe::{FillPipe, NoRoom};
 use edge_core::Source;
@@ -101,7 +101,6 @@ impl Filling {
         ensures draft { IfOk result (λ _. (P.writer end.new).draft ≡ []) }
         ensures limit { self.new.limit ≡ self.old.limit }
         ensures within { self.new.taken ≤ self.new.limit }
-        ensures exchanges { (P.writer end.old).exchanges ≤ (P.writer end.new).exchanges }
         ensures reading { (P.writer end.new).reading ≡ (P.writer end.old).reading }
         ensures options { P.options pipe.now end.new ≡ P.options pipe.now end.old }
     {
@@ -130,13 +129,12 @@ impl Filling {
         requires settled { self.old.owed ≡ false }
         requires holds { (h : List Call) × (bytes : List ℕ) × HasTaken P.at P.writer self.old end.old h bytes }
         ensures may { P.may_call pipe.now end.new }
-        ensures fills { (h : List Call) (bytes : List ℕ) → HasTaken P.at P.writer self.old end.old h bytes →
-            FillsOn P.at P.others P.writer P.refuses (P.options pipe.now end.old) (P.is_full pipe.now) self.old end.old (S.state source.old) result self.new end.new (S.state source.new) h bytes }
+        ensures takes { (h : List Call) (bytes : List ℕ) → HasTaken P.at P.writer self.old end.old h bytes →
+            TakesBy P.at P.others P.writer P.refuses (P.options pipe.now end.old) (P.is_full pipe.now) result self.old end.old (S.state source.old) self.new end.new (S.state source.new) h bytes }
         ensures owed { IfOk result (λ filled. self.new.owed ≡ owes filled) }
         ensures draft { IfOk result (λ _. (P.writer end.new).draft ≡ []) }
         ensures limit { self.new.limit ≡ self.old.limit }
         ensures within { self.new.taken ≤ self.new.limit }
-        ensures exchanges { (P.writer end.old).exchanges ≤ (P.writer end.new).exchanges }
         ensures reading { (P.writer end.new).reading ≡ (P.writer end.old).reading }
         ensures options { P.options pipe.now end.new ≡ P.options pipe.now end.old }
     {
@@ -174,7 +172,6 @@ impl Filling {
         ensures draft { IfOk result (λ _. (P.writer end.new).draft ≡ []) }
         ensures limit { self.new.limit ≡ self.old.limit }
         ensures taken { self.new.taken ≡ self.old.taken }
-        ensures exchanges { (P.writer end.old).exchanges ≤ (P.writer end.new).exchanges }
         ensures reading { (P.writer end.new).reading ≡ (P.writer end.old).reading }
         ensures options { P.options pipe.now end.new ≡ P.options pipe.now end.old }
     {

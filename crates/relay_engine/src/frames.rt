@@ -272,7 +272,8 @@ fn frame_len<C: Spans>(framing: Framing, payload: &Sequence<'_, C>) -> u64
 
 /// How many frames of a lend are whole in the first `written` bytes of what is to be written of it.
 fn whole_frames<C: Spans>(job: &Job, lent: &Sequence<'_, C>, at_end: bool, written: u128) -> u64
-    requires { written < length (translation job.now (bytes lent.now) at_end).text }
+    requires small { length (bytes lent.now) ≤ 2 ^ 62 }
+    requires short { written < length (translation job.now (bytes lent.now) at_end).text }
     ensures { CountsWhole job.now (bytes lent.now) at_end written result }
 {
     let mut rest = *lent;

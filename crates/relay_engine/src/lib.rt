@@ -27,9 +27,10 @@ pub use ending::outcome_of;
 pub use fill_side::fill;
 pub use laws::{
     drained_at_first, drained_behind_others, drained_is_a_front, settled_pump_is_reported,
+    steps_drain, steps_fill,
 };
 pub use lines::{Told, tell};
-pub use pipe_drainer::{DrainStep, Drainer, drain};
-pub use pipe_filler::{FillStep, Filler};
+pub use pipe_drainer::{DrainStep, Drainer, drain, drainer_has_written};
+pub use pipe_filler::{FillStep, Filler, filler_has_taken};
 pub use pump::{options_of, pump_local};
 pub use relay_model::{FillEnd, Outcome, Report, status_of};

@@ -10,7 +10,7 @@ impl DrainPipe for LocalPipe {
 
     type Lent = LocalPipe;
 
-    ghost use Rattle.relay_engine.specs.ReaderEnds.{IsAttended, aside_local, lent_local, no_exchanges};
+    ghost use Rattle.relay_engine.specs.ReaderEnds.{IsAttended, aside_local, lent_local, local_tally};
     ghost use Rattle.relay_engine.specs.LocalEnds.{HoldsLocal, NoOthers, RefusesNone};
 
     ghost may_call = { IsAttended };
@@ -23,7 +23,7 @@ impl DrainPipe for LocalPipe {
 
     ghost lent = { lent_local };
 
-    ghost exchanges = { no_exchanges };
+    ghost tally = { local_tally };
 
     ghost aside = { aside_local };
 

@@ -3,7 +3,10 @@
 ghost use Rattle.std.specs.Prelude.{◌≡◌, ℕ, List, [], Some, None, IsSome, IsSomeAnd};
 ghost use Rattle.turn_cell.specs.Seat.{IsIdle};
 ghost use Rattle.relay_engine.specs.Sides.{HasDrained};
-ghost use Rattle.relay_engine.specs.PipeDrainer.{CompletesFor, IsDraining, IsOfPipe, OwesNothing, StepsDrainer, end_by, refused_step};
+ghost use Rattle.pipe_core.specs.Legal.{IsLegal};
+ghost use Rattle.pipe_shared.specs.Log.{IsLawful};
+ghost use Rattle.relay_engine.specs.Sides.{Concludes};
+ghost use Rattle.relay_engine.specs.PipeDrainer.{CompletesFor, IsDrainer, IsDraining, IsOfPipe, IsUnwritten, StepsDrainer, end_by, refused_step, seen_by};
 
 use crate::drain_end::DrainEnd;
 use crate::draining::{Draining, Progress};
@@ -52,23 +55,24 @@ pub struct Drainer {
 }
 
 impl Model for Drainer {
-    ghost use Rattle.relay_engine.specs.PipeDrainer.{DrainerState};
+    ghost use Rattle.relay_engine.specs.PipeDrainer.{DrainerState, IsDrainer};
 
     ghost Value = { DrainerState };
 
     ghost view = { λ d. record { draining = d.draining; end = d.end; ending = d.ending; done = d.done } };
+
+    ghost invariant = { λ d. IsDrainer (record { draining = d.draining; end = d.end; ending = d.ending; done = d.done }) };
 }
 
 impl Drainer {
-    /// A drainer that cuts frames and spells them anew as the job says. Its end has made no call yet.
+    /// A drainer that cuts frames and spells them anew as the job says. Its end has made no call yet, whatever others did.
     pub fn new(end: ReaderEnd, job: &Job) -> Drainer
-        requires seen { end.seat.seen ≡ [] }
+        requires unused { end.seat.own ≡ [] }
+        requires lawful { IsLawful end.seat.seen }
         requires no_lend { end.lent ≡ None }
-        ensures end { result.end ≡ Some end }
-        ensures job { result.draining.drained.job ≡ job.now }
-        ensures going { IsDraining result [] }
-        ensures owing { OwesNothing result }
+        ensures { result ≡ record { draining = record { drained = record { job = job.now; place = 0; frames = 0; written = 0; known = 0 }; owed = None }; end = Some end; ending = None; done = None } }
     {
+        reader_has_its_seat(&end);
         Drainer {
             draining: Draining::new(job),
             end: Some(end),
@@ -96,7 +100,6 @@ impl Drainer {
     /// first, and nothing that came before it is done again.
     pub fn step<K: Sink>(&mut self, pipe: &Pipe, sink: &mut K) -> DrainStep
         requires pipe { IsSomeAnd self.old.end (λ r. IsIdle pipe.now r.seat) }
-        requires going { (text : List ℕ) × IsDraining self.old text }
         ensures pipe { IsOfPipe pipe.now result self.new }
         ensures step { StepsDrainer self.old (K.state sink.old) result self.new (K.state sink.new) }
     {
@@ -111,6 +114,7 @@ impl Drainer {
 
     fn go_on<K: Sink>(&mut self, pipe: &Pipe, end: ReaderEnd, sink: &mut K) -> DrainStep
         requires pipe { IsIdle pipe.now end.seat }
+        requires taken { self.old.end ≡ None }
         requires ending { self.old.ending ≡ None }
         requires going { (text : List ℕ) × IsDraining (record self.old { end = Some end }) text }
         ensures pipe { IsOfPipe pipe.now result self.new }
@@ -136,7 +140,10 @@ impl Drainer {
 
     /// Completes the reader. That is owed where it is refused.
     fn complete(&mut self, ending: DrainEnd, pipe: &Pipe, end: ReaderEnd) -> DrainStep
-        requires { IsIdle pipe.now end.seat }
+        requires pipe { IsIdle pipe.now end.seat }
+        requires taken { self.old.end ≡ None }
+        requires legal { IsLegal (seen_by end) }
+        requires concluded { (text : List ℕ) × Concludes self.old.draining.drained.job self.old.draining.drained.frames self.old.draining.drained.written (seen_by end) text ending }
         ensures pipe { IsOfPipe pipe.now result self.new }
         ensures completes { CompletesFor ending self.old.draining end result self.new }
     {
@@ -188,6 +195,13 @@ fn refused(fault: TryFault) -> DrainStep
     }
 }
 
+/// What a drainer that goes on has done to its pipe comes from some text that it has written.
+pub fn drainer_has_written(drainer: &Drainer)
+    ensures { IsDrainer drainer.now }
+{
+    let _ = &drainer.end;
+}
+
 /// Runs a drainer to its end. It waits for turns, and for the writer where there is nothing to lend: its thread may sleep
 /// meanwhile. It answers why it ended, the reader that has completed, how many frames were written whole, and how many bytes
 /// the sink has taken, up to 2^64 - 1. Once the pipe's history takes no more entries it doesn't return.
@@ -198,11 +212,11 @@ pub fn drain<R: Wait, K: Sink>(
     sink: &mut K,
 ) -> (DrainEnd, ReaderDone, u64, u64)
     requires pipe { IsSomeAnd drainer.end (λ r. IsIdle pipe.now r.seat) }
-    requires new { IsDraining drainer [] }
-    requires nothing_owed { OwesNothing drainer }
+    requires new { IsUnwritten drainer }
     ensures pipe { IsIdle pipe.now result.1 }
     ensures drained { HasDrained drainer.draining.drained.job result.0 result.1 result.2 result.3 (K.state sink.old) (K.state sink.new) }
 {
+    drainer_has_written(&drainer);
     let mut drainer = drainer;
     let mut attempts = Attempts::new();
     for _ in rt.forever() {

@@ -2,11 +2,12 @@
 
 ghost use Rattle.std.specs.Prelude.{◌≡◌, ◌≤◌, ◌^◌, [], false, true, length, None, Some, IfOk};
 ghost use Rattle.turn_cell.specs.Seat.{IsIdle};
+ghost use Rattle.pipe_shared.specs.Log.{IsLawful};
+ghost use Rattle.pipe_shared.specs.Ends.{IsEnd};
 ghost use Rattle.relay_engine.specs.Filler.{fill_code};
-ghost use Rattle.relay_engine.specs.Filling.{FillsOn, OrCommits, owes};
-ghost use Rattle.relay_engine.specs.Later.{Later};
+ghost use Rattle.relay_engine.specs.Filling.{FillsOn, HasTaken, owes};
 ghost use Rattle.relay_engine.specs.WriterEnds.{FindsNoRoom, HasWritten, IsOthers, RefusesWriter, drafting};
-ghost use Rattle.relay_engine.specs.PipeFiller.{Adds, Closes, CompletesBy, IfAnswered, MayClose, OwesBy, StepsOn, TakesOn, all_of, closed_as, filling_of, is_closed, is_done, seen_by, writer_in};
+ghost use Rattle.relay_engine.specs.PipeFiller.{Closes, CompletesBy, IfAnswered, IsUnused, MayClose, OwesBy, StepsOn, TakesOrEnds, all_of, closed_as, filling_of, is_closed, is_done, seen_by, writer_in};
 ghost use Rattle.relay_engine.specs.declared.pipe_filler.FillerEnd.TheVariants.{Open};
 
 use crate::filling::{Filled, Filling};
@@ -80,13 +81,16 @@ impl Model for Filler {
 }
 
 impl Filler {
-    /// A filler that takes at most `limit` bytes in all, by a writing end of which no call was made yet.
+    /// A filler that takes at most `limit` bytes in all. Its end has made no entry yet, whatever others did.
     pub fn new(end: WriterEnd, limit: u64) -> Filler
         requires limit { limit ≤ 2 ^ 40 }
-        requires unused { end.seat.seen ≡ [] }
+        requires unused { end.seat.own ≡ [] }
+        requires lawful { IsLawful end.seat.seen }
         requires undrafted { end.draft ≡ [] }
-        ensures { result ≡ record { limit = limit; taken = 0; owed = false; drafted = 0; end = end; ending = None; done = false } }
+        ensures filler { result ≡ record { limit = limit; taken = 0; owed = false; drafted = 0; end = end; ending = None; done = false } }
+        ensures unused { IsUnused result }
     {
+        writer_has_its_seat(&end);
         Filler {
             filling: Filling::new(limit),
             end: FillerEnd::Open(end),
@@ -113,8 +117,9 @@ impl Filler {
         ensures pipe { IsIdle pipe.now self.new.end.seat }
         ensures limit { self.new.limit ≡ self.old.limit }
         ensures done { self.new.done ≡ is_done result }
-        ensures steps { StepsOn pipe.now.name.options self.old (S.state source.old) result self.new (S.state source.new) }
-        ensures adds { Adds result (seen_by self.old.end) (seen_by self.new.end) }
+        ensures steps { StepsOn pipe.now self.old (S.state source.old) result self.new (S.state source.new) }
+        ensures counted { self.new.taken ≡ length (all_of self.new.end) }
+        ensures within { self.new.taken ≤ self.new.limit }
         ensures draft { IfAnswered result (self.new.end.draft ≡ []) }
         ensures owed { OwesBy result self.new.owed }
     {
@@ -159,8 +164,9 @@ impl Filler {
         ensures pipe { IsIdle pipe.now self.new.end.seat }
         ensures limit { self.new.limit ≡ self.old.limit }
         ensures done { self.new.done ≡ false }
-        ensures takes { TakesOn pipe.now.name.options self.old (S.state source.old) result self.new (S.state source.new) }
-        ensures later { Later (OrCommits IsOthers) (seen_by self.old.end) (seen_by self.new.end) }
+        ensures takes { TakesOrEnds pipe.now self.old (S.state source.old) result self.new (S.state source.new) }
+        ensures counted { self.new.taken ≡ length (all_of self.new.end) }
+        ensures within { self.new.taken ≤ self.new.limit }
         ensures draft { IfOk result (λ step. IfAnswered step (self.new.end.draft ≡ [])) }
         ensures owed { IfOk result (λ step. OwesBy step self.new.owed) }
     {
@@ -187,13 +193,13 @@ impl Filler {
         requires pipe { IsIdle pipe.now self.old.end.seat }
         ensures pipe { IsIdle pipe.now self.new.end.seat }
         ensures fills { FillsOn HasWritten IsOthers drafting RefusesWriter pipe.now.name.options (FindsNoRoom pipe.now) (filling_of self.old) self.old.end (S.state source.old) result (filling_of self.new) self.new.end (S.state source.new) (seen_by self.old.end) (all_of self.old.end) }
-        ensures later { Later (OrCommits IsOthers) (seen_by self.old.end) (seen_by self.new.end) }
         ensures draft { IfOk result (λ _. self.new.end.draft ≡ []) }
         ensures owed { IfOk result (λ filled. self.new.owed ≡ owes filled) }
         ensures limit { self.new.limit ≡ self.old.limit }
+        ensures counted { self.new.taken ≡ length (all_of self.new.end) }
+        ensures within { self.new.taken ≤ self.new.limit }
         ensures ending { self.new.ending ≡ None }
         ensures done { self.new.done ≡ false }
-        ensures exchanges { self.old.end.seat.exchanges ≤ self.new.end.seat.exchanges }
     {
         match &mut self.end {
             FillerEnd::Open(end) => self.filling.step(pipe, end, source),
@@ -208,9 +214,11 @@ impl Filler {
         requires pipe { IsIdle pipe.now self.old.end.seat }
         ensures pipe { IsIdle pipe.now self.new.end.seat }
         ensures completes { CompletesBy result reason self.old.end self.new.end }
-        ensures adds { Adds result (seen_by self.old.end) (seen_by self.new.end) }
+        ensures counted { self.new.taken ≡ length (all_of self.new.end) }
+        ensures within { self.new.taken ≤ self.new.limit }
         ensures draft { self.new.end.draft ≡ [] }
         ensures ending { self.new.ending ≡ Some reason }
+        ensures filling { filling_of self.new ≡ filling_of self.old }
         ensures limit { self.new.limit ≡ self.old.limit }
         ensures done { self.new.done ≡ is_done result }
     {
@@ -269,6 +277,18 @@ fn step_of(reason: FillEnd, closed: Result<(), TryFault>) -> FillStep
         Ok(()) => FillStep::Done(reason),
         Err(TryFault::Busy { word }) => FillStep::Busy { word },
         Err(TryFault::Worn { entries }) => FillStep::Worn { entries },
+    }
+}
+
+/// What a filler has taken is what its end has committed and drafted, as the end has seen it. The end's own entries stand in
+/// that.
+pub fn filler_has_taken(filler: &Filler)
+    ensures taken { HasTaken HasWritten drafting (filling_of filler.now) filler.now.end (seen_by filler.now.end) (all_of filler.now.end) }
+    ensures seat { IsEnd 0 filler.now.end.seat }
+{
+    match &filler.end {
+        FillerEnd::Open(end) => writer_has_its_seat(end),
+        FillerEnd::Closed(done) => done_writer_has_its_seat(done),
     }
 }
 

@@ -123,7 +123,9 @@ fn fill_once<S: Source>(
             complete(pipe, code_of(end));
             Some(end)
         }
-        Ok(Filled::Moved { .. } | Filled::Paused { .. } | Filled::Full(_)) => None,
+        Ok(Filled::Moved { .. }) => None,
+        Ok(Filled::Paused { .. }) => None,
+        Ok(Filled::Full(_)) => None,
         Err(_) => unreachable!(),
     }
 }

@@ -14,7 +14,7 @@ impl DrainPipe for ReaderEnd {
 
     ghost use Rattle.std.specs.Prelude.{◌≢◌};
     ghost use Rattle.pipe_core.specs.History.{seat_of};
-    ghost use Rattle.relay_engine.specs.ReaderEnds.{HasRead, IsReaderOf, RefusesReader, exchanges_of, lent_len, nothing_aside};
+    ghost use Rattle.relay_engine.specs.ReaderEnds.{HasRead, IsReaderOf, RefusesReader, lent_len, nothing_aside, reader_tally};
 
     ghost may_call = { IsReaderOf };
 
@@ -26,7 +26,7 @@ impl DrainPipe for ReaderEnd {
 
     ghost lent = { lent_len };
 
-    ghost exchanges = { exchanges_of };
+    ghost tally = { reader_tally };
 
     ghost aside = { nothing_aside };
 

@@ -3,6 +3,7 @@ use Rattle.std.proofs.Common.{[], refl, ◌<◌, ◌+◌, ◌-◌, length, drop,
 use Rattle.std.proofs.lemmas.List.{drop-drop}
 use Rattle.frame_grammar.specs.Job.{translation}
 use Rattle.span_seq.specs.Sequence.{bytes}
+use Rattle.relay_engine.proofs.BoundLemmas.{passes_few}
 use Rattle.relay_engine.proofs.FrameLemmas.{passes_nothing}
 use Rattle.relay_engine.proofs.WriteLemmas.{counts_one, counts_whole}
 use Rattle.relay_engine.proofs.frames.whole_frames.Goals as goal
@@ -14,8 +15,11 @@ loop-payload-init g c = record {
   rest = refl;
   passes = passes_nothing c.args.job.now (bytes c.args.lent.now) c.args.at_end;
   left = sym (zero-add c.args.written);
-  short = c.requires;
+  short = c.requires.short;
 }
+
+pub overflow_add-frames : goal.overflow_add-frames
+overflow_add-frames g c = omega (arith, passes_few c.args.job.now (bytes c.args.lent.now) c.loop-payload.invariant.text c.args.at_end c.loop-payload.invariant.len c.loop-payload.frames c.loop-payload.invariant.passes, c.requires.small)
 
 pub loop-payload-preserved : goal.loop-payload-preserved
 loop-payload-preserved g c =

@@ -4,6 +4,7 @@ use Rattle.span_seq.specs.Sequence.{bytes}
 use Rattle.relay_engine.proofs.FrameLemmas.{passes_nothing}
 use Rattle.relay_engine.proofs.FrontLemmas.{behind_rest, front_failed, front_more, known_is, rest_is}
 use Rattle.relay_engine.proofs.GatherLemmas.{on_err, puts_nothing}
+use Rattle.relay_engine.proofs.BoundLemmas.{passes_few}
 use Rattle.relay_engine.proofs.WriteLemmas.{drained, interrupted_behind, interrupted_within, one_more}
 use Rattle.relay_engine.proofs.frames.write_frames.Goals as goal
 
@@ -49,14 +50,14 @@ overflow_add-frames g c =
     let so_far = c.loop-front.invariant in
     let first = rw so_far.rest at c.unsearched.ensures in
     let puts = front_more c.args.job.now (bytes c.args.lent.now) c.unsearched.result.now c.args.at_end _ _ _ _ _ _ c.loop-front.passed c.loop-front.frames c.loop-front.written so_far.text c.in_ok-front.front so_far.passes so_far.puts so_far.counted first c.in_ok-front.ensures.put in
-    omega (arith, puts.passes.few, puts.passes.within, c.requires.small)
+    omega (arith, passes_few c.args.job.now (bytes c.args.lent.now) puts.text c.args.at_end (c.loop-front.passed + c.in_ok-front.front.len) (c.loop-front.frames + c.in_ok-front.front.frames) puts.passes, c.requires.small)
 
 pub overflow_add-frames-in-Ok : goal.overflow_add-frames-in-Ok
 overflow_add-frames-in-Ok g c =
     let so_far = c.loop-front.invariant in
     let first = rw so_far.rest at c.unsearched.ensures in
     let puts = front_more c.args.job.now (bytes c.args.lent.now) c.unsearched.result.now c.args.at_end _ _ _ _ _ _ c.loop-front.passed c.loop-front.frames c.loop-front.written so_far.text c.in_ok-front.front so_far.passes so_far.puts so_far.counted first c.in_ok-front.ensures.put in
-    omega (arith, puts.passes.few, puts.passes.within, c.requires.small)
+    omega (arith, passes_few c.args.job.now (bytes c.args.lent.now) puts.text c.args.at_end (c.loop-front.passed + c.in_ok-front.front.len) (c.loop-front.frames + c.in_ok-front.front.frames) puts.passes, c.requires.small)
 
 pub returns-in_err-more-in-Ok-clause-failed : goal.returns-in_err-more-in-Ok-clause-failed
 returns-in_err-more-in-Ok-clause-failed g c =

@@ -1,6 +1,10 @@
 use Rattle.std.proofs.Common.{sym, ◌∙◌}
-use Rattle.relay_engine.proofs.PipeDrainerLemmas.{none_of, still_going, wrote_all, wrote_on}
+use Rattle.relay_engine.proofs.LaterLemmas.{none_of}
+use Rattle.relay_engine.proofs.PipeDrainerLemmas.{begins, still_going, wrote_all, wrote_on}
 use Rattle.relay_engine.proofs.pipe_drainer.drain.Goals as goal
+
+pub loop-init : goal.loop-init
+loop-init g c = record { pipe = c.requires.pipe; written = begins c.args.pipe.now c.args.drainer _ c.requires.new c.drainer_has_written.ensures c.requires.pipe }
 
 pub returns-in-Some-done_by-clause-drained : goal.returns-in-Some-done_by-clause-drained
 returns-in-Some-done_by-clause-drained g c =

@@ -15,12 +15,12 @@ pass_on-requires-clause-known g c =
 pub returns-in-Err-clause-step : goal.returns-in-Err-clause-step
 returns-in-Err-clause-step g c =
     let e = c.in-Err.ensures in
-    read_refused _ _ _ _ _ _ c.args.self.now c.args.end.now c.read.new.self _ c.in-Err.fault c.requires.fresh g.met.P.DrainPipe.not_ours e.heard e.refused e.kept c.requires.no_lend e.aside e.exchanges
+    read_refused _ _ _ _ _ _ c.args.self.now c.args.end.now c.read.new.self _ c.in-Err.fault c.requires.fresh g.met.P.DrainPipe.not_ours e.heard e.refused e.kept c.requires.no_lend e.aside
 
 pub returns-in-Ok-Pending-clause-step : goal.returns-in-Ok-Pending-clause-step
 returns-in-Ok-Pending-clause-step g c =
     let e = c.in-Ok-Pending.ensures in
-    read_pending _ _ _ _ _ _ c.args.self.now c.args.end.now c.read.new.self _ c.in-Ok-Pending.examined c.requires.fresh g.met.P.DrainPipe.not_ours (λ h is. as_reply _ _ h _ _ c.read.new.self c.in-Ok-Pending.field-0-is (e.at h is)) (e.lent ∙ ap (λ r. lent_by r) c.in-Ok-Pending.field-0-is) e.aside e.exchanges
+    read_pending _ _ _ _ _ _ c.args.self.now c.args.end.now c.read.new.self _ c.in-Ok-Pending.examined c.requires.fresh g.met.P.DrainPipe.not_ours (λ h is. as_reply _ _ h _ _ c.read.new.self c.in-Ok-Pending.field-0-is (e.at h is)) (e.lent ∙ ap (λ r. lent_by r) c.in-Ok-Pending.field-0-is) e.aside e.tally
 
 pub returns-in-Some-clause-step : goal.returns-in-Some-clause-step
 returns-in-Some-clause-step g c =
@@ -28,10 +28,10 @@ returns-in-Some-clause-step g c =
     let lent = c.pass_on.ensures.lent in
     let a = c.advance.ensures in
     read_passed _ _ _ _ _ _ c.args.self.now c.pass_on.new.self c.advance.new.self c.args.end.now c.read.new.self c.advance.new.end _ _ c.in-Ok-Ready.field-0-0 c.in-Ok-Ready.ended c.in-Ok-Ready.field-0-2 lent.0 c.in-Some.owed c.advance.result
-    c.requires.fresh g.met.P.DrainPipe.not_ours (λ h is. as_reply _ _ h _ _ c.read.new.self c.in-Ok-Ready.field-0-is (e.at h is)) lent.1 (rw c.in-Some.is at lent.3) a.advanced a.drained a.failed (a.aside ∙ e.aside) e.exchanges a.exchanges a.lends a.within
+    c.requires.fresh g.met.P.DrainPipe.not_ours (λ h is. as_reply _ _ h _ _ c.read.new.self c.in-Ok-Ready.field-0-is (e.at h is)) lent.1 (rw c.in-Some.is at lent.3) a.advanced a.drained a.failed (a.aside ∙ e.aside) e.tally a.tally a.lends a.within
 
 pub returns-in-None-clause-step : goal.returns-in-None-clause-step
 returns-in-None-clause-step g c =
     let e = c.in-Ok-Ready.ensures in
     let lent = c.pass_on.ensures.lent in
-    read_broken _ _ _ _ _ _ c.args.self.now c.pass_on.new.self c.args.end.now c.read.new.self _ _ c.in-Ok-Ready.field-0-0 c.in-Ok-Ready.ended c.in-Ok-Ready.field-0-2 lent.0 c.requires.fresh c.pass_on.ensures.owed g.met.P.DrainPipe.not_ours (λ h is. as_reply _ _ h _ _ c.read.new.self c.in-Ok-Ready.field-0-is (e.at h is)) lent.1 (rw c.in-None.is at lent.3) e.aside e.exchanges
+    read_broken _ _ _ _ _ _ c.args.self.now c.pass_on.new.self c.args.end.now c.read.new.self _ _ c.in-Ok-Ready.field-0-0 c.in-Ok-Ready.ended c.in-Ok-Ready.field-0-2 lent.0 c.requires.fresh c.pass_on.ensures.owed g.met.P.DrainPipe.not_ours (λ h is. as_reply _ _ h _ _ c.read.new.self c.in-Ok-Ready.field-0-is (e.at h is)) lent.1 (rw c.in-None.is at lent.3) e.aside e.tally

@@ -1,5 +1,5 @@
 use Rattle.std.proofs.Common.{refl, ap, ◌∙◌}
-use Rattle.relay_engine.proofs.PipeDrainerLemmas.{ended, idled, moved, was_refused}
+use Rattle.relay_engine.proofs.PipeDrainerLemmas.{ended, idled, moved, still_drainer, still_refused, was_refused}
 use Rattle.relay_engine.proofs.pipe_drainer.Drainer.go_on.Goals as goal
 
 pub returns-in-Ok-Moved-clause-step : goal.returns-in-Ok-Moved-clause-step
@@ -21,3 +21,13 @@ pub returns-in-Err-clause-step : goal.returns-in-Err-clause-step
 returns-in-Err-clause-step g c =
     let going = ap (λ d. d.ending) c.self.view_is ∙ c.requires.ending in
     rw (c.refused.ensures, ← c.self.view_is) (was_refused _ _ c.args.end c.step.new.end _ _ c.in-Err.fault refl going refl going c.in-Err.ensures.step)
+
+pub invariant_of-self : goal.invariant_of-self
+invariant_of-self g c reader is =
+    let going = ap (λ d. d.ending) c.self.view_is ∙ c.requires.ending in
+    still_drainer _ _ _ _ _ _ (rw (← c.self.view_is) at c.requires.going.1) (moved _ _ c.args.end c.step.new.end _ _ c.in-Ok-Moved.frames refl going refl going (rw c.in-Ok-Moved.field-0-is at c.in-Ok-Moved.ensures.step)) refl
+
+pub invariant_of-self-in-Err : goal.invariant_of-self-in-Err
+invariant_of-self-in-Err g c reader is =
+    let going = ap (λ d. d.ending) c.self.view_is ∙ c.requires.ending in
+    still_refused _ _ _ _ _ c.in-Err.fault (rw (← c.self.view_is) at c.requires.going.1) (was_refused _ _ c.args.end c.step.new.end _ _ c.in-Err.fault refl going refl going c.in-Err.ensures.step)

@@ -16,10 +16,8 @@ returns-clause-completes c =
     let on = closed_with _ _ c.replace_with-closed.new.dest _ c.args.reason _ _ c.code_of.ensures (ap (λ s. s.ending) c.self.view_is ∙ c.requires.ended) c.self.invariant c.replace_with-closed.ensures.1 in
     rw (c.step_of.ensures, ← c.self.view_is) on.completes
 
-pub returns-clause-adds : goal.returns-clause-adds
-returns-clause-adds c =
-    let on = closed_with _ _ c.replace_with-closed.new.dest _ c.args.reason _ _ c.code_of.ensures (ap (λ s. s.ending) c.self.view_is ∙ c.requires.ended) c.self.invariant c.replace_with-closed.ensures.1 in
-    rw (c.step_of.ensures, ← c.self.view_is) on.adds
+pub returns-clause-counted : goal.returns-clause-counted
+returns-clause-counted c = (invariant_of-self c).taken.counted
 
 pub returns-clause-draft : goal.returns-clause-draft
 returns-clause-draft c =
