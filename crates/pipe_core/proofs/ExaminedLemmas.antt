@@ -9,7 +9,7 @@ never_less : (call : Call) (h : List Call) → examined h ≤ examined (call ∷
 never_less (Advance c e) h = omega arith
 never_less (Commit runs) h = omega arith
 never_less (EndWriter code) h = omega arith
-never_less Read h = omega arith
+never_less (Read n) h = omega arith
 never_less (EndReader code) h = omega arith
 never_less CancelRead h = omega arith
 never_less CancelFlush h = omega arith
@@ -34,7 +34,7 @@ reached (Advance c e ∷ h) = elim (cases_lt (consumed h + e) (examined h)) [
 ]
 reached (Commit runs ∷ h) = still (Commit runs) h (examined h) (reached h)
 reached (EndWriter code ∷ h) = still (EndWriter code) h (examined h) (reached h)
-reached (Read ∷ h) = still Read h (examined h) (reached h)
+reached (Read n ∷ h) = still (Read n) h (examined h) (reached h)
 reached (EndReader code ∷ h) = still (EndReader code) h (examined h) (reached h)
 reached (CancelRead ∷ h) = still CancelRead h (examined h) (reached h)
 reached (CancelFlush ∷ h) = still CancelFlush h (examined h) (reached h)

@@ -2,6 +2,7 @@ pub mod ExaminedLemmas
 pub mod PauseLemmas
 pub mod RunLemmas
 pub mod OrderLemmas
+pub mod PlainLemmas
 pub mod StandingLemmas
 pub mod BufferLemmas
 pub mod PipeLemmas

@@ -1,8 +1,8 @@
 -- What a legal history consumes and examines is committed.
-use Rattle.std.proofs.Common.{◌≡◌, ◌≤◌, ◌+◌, ◌^◌, ◌⊎◌, inl, inr, ℕ, Bool, true, false, List, [], ◌∷◌, ◌++◌, length, refl, ap, ◌∙◌, arith, Option, Some, None}
-use Rattle.std.specs.Prelude.{is_none, is_some, cond, IsSome, IsNone, IsSomeAnd, ◌||◌, nat_lt}
+use Rattle.std.proofs.Common.{◌≡◌, ◌≤◌, ◌<◌, ◌+◌, ◌^◌, ◌⊎◌, inl, inr, ℕ, Bool, true, false, List, [], ◌∷◌, ◌++◌, length, refl, ap, ◌∙◌, arith, Option, Some, None, append-nil}
+use Rattle.std.specs.Prelude.{is_none, is_some, cond, IsSome, IsNone, IsSomeAnd, ◌&&◌, ◌||◌, nat_lt, nat_le}
 use Rattle.std.proofs.lemmas.List.Concat.{flat_map-append}
-use Rattle.std.proofs.lemmas.Bool.{or_parts, ltb-false}
+use Rattle.std.proofs.lemmas.Bool.{or_parts, ltb-false, leb-false}
 use Rattle.pipe_core.specs.declared.reply.ReadReply.TheVariants.{Ready, Pending}
 use Rattle.std.proofs.lemmas.List.{length-append, length-drop}
 use Rattle.pipe_core.specs.History.{Run, Call, Commit, EndWriter, Read, Advance, EndReader, CancelRead, CancelFlush, bytes_of, reader_end, writer_end}
@@ -20,6 +20,13 @@ pub total_commit : (runs : List Run) (h : List Call) → total (Commit runs ∷ 
 total_commit runs h =
     let more = cond (is_none (reader_end h)) runs [] in
     flat_map-append (λ (r : Run). r.bytes) (committed_runs h) more ∙ ap (λ (t : List ℕ). total h ++ t) (bytes_where (is_none (reader_end h)) runs)
+
+none_added : (b : Bool) (t : List ℕ) → t ++ cond b [] [] ≡ t
+none_added true t = append-nil t
+none_added false t = append-nil t
+
+pub total_nothing : (h : List Call) → total (Commit [] ∷ h) ≡ total h
+total_nothing h = total_commit [] h ∙ none_added (is_none (reader_end h)) (total h)
 
 pub grows : (runs : List Run) (h : List Call) → length (total h) ≤ length (total (Commit runs ∷ h))
 grows runs h = omega (arith, ap length (total_commit runs h), length-append (total h) (cond (is_none (reader_end h)) (bytes_of runs) []))
@@ -60,13 +67,13 @@ ordered (Commit runs ∷ h) legal =
       attended = o.attended;
     }
 ordered (EndWriter code ∷ h) legal = let o = ordered h legal.0 in record { total_in = o.total_in; consumed_in = o.consumed_in; examined_in = o.examined_in; lent_in = o.lent_in; attended = o.attended }
-ordered (Read ∷ h) legal =
+ordered (Read n ∷ h) legal =
     let o = ordered h legal.0 in
     record {
       total_in = o.total_in;
       consumed_in = o.consumed_in;
       examined_in = o.examined_in;
-      lent_in = λ bytes e. omega (arith, o.consumed_in, ap length (read_lends (read_is_ready h) (held h) bytes e), length-drop (consumed h) (total h));
+      lent_in = λ bytes e. omega (arith, o.consumed_in, ap length (read_lends (read_is_ready n h) (held h) bytes e), length-drop (consumed h) (total h));
       attended = λ bytes e. legal.1.0;
     }
 ordered (Advance c e ∷ h) legal =
@@ -78,13 +85,31 @@ ordered (EndReader code ∷ h) legal = let o = ordered h legal.0 in record { tot
 ordered (CancelRead ∷ h) legal = let o = ordered h legal.0 in record { total_in = o.total_in; consumed_in = o.consumed_in; examined_in = o.examined_in; lent_in = o.lent_in; attended = o.attended }
 ordered (CancelFlush ∷ h) legal = let o = ordered h legal.0 in record { total_in = o.total_in; consumed_in = o.consumed_in; examined_in = o.examined_in; lent_in = o.lent_in; attended = o.attended }
 
-pending : (b canceled : Bool) (ended : Option ℕ) (len mark n : ℕ) → cond b (Ready canceled ended len) (Pending mark) ≡ Pending n → (b ≡ false) × (n ≡ mark)
-pending true canceled ended len mark n e = absurd cc
-pending false canceled ended len mark n e = (refl, cc)
+-- what a read that waits tells
+pending : (b canceled : Bool) (ended : Option ℕ) (len mark count n k : ℕ) → cond b (Ready canceled ended len) (Pending mark count) ≡ Pending n k → (b ≡ false) × (n ≡ mark) × (k ≡ count)
+pending true canceled ended len mark count n k e = absurd cc
+pending false canceled ended len mark count n k e = (refl, cc, cc)
 
-pub seen_all : (h : List Call) (n : ℕ) → IsLegal h → reply_to_read h ≡ Pending n → n ≡ length (total h)
-seen_all h n legal e =
-    let p = pending (read_is_ready h) (canceled_read h) (writer_end h) (length (held h)) (examined h) n e in
-    let none = or_parts (canceled_read h || is_some (writer_end h)) (nat_lt 0 (unexamined h)) p.0 in
+pub pending_tells : (n : ℕ) (h : List Call) (mark count : ℕ) → reply_to_read n h ≡ Pending mark count → (read_is_ready n h ≡ false) × (mark ≡ examined h) × (count ≡ length (held h))
+pending_tells n h mark count e = pending (read_is_ready n h) (canceled_read h) (writer_end h) (length (held h)) (examined h) (length (held h)) mark count e
+
+pub either : (a b : Bool) → a && b ≡ false → (a ≡ false) ⊎ (b ≡ false)
+either true b e = inr e
+either false b e = inl refl
+
+pub seen_all : (h : List Call) (n mark count : ℕ) → IsLegal h → reply_to_read n h ≡ Pending mark count → (mark ≡ length (total h)) ⊎ (count < n)
+seen_all h n mark count legal e =
+    let p = pending_tells n h mark count e in
+    let none = or_parts (canceled_read h || is_some (writer_end h)) (nat_lt 0 (unexamined h) && nat_le n (length (held h))) p.0 in
     let o = ordered h legal in
-    omega (arith, p.1, ltb-false 0 (unexamined h) none.1, o.examined_in)
+    elim (either (nat_lt 0 (unexamined h)) (nat_le n (length (held h))) none.1) [
+      | inl few ↦ inl (omega (arith, p.1, ltb-false 0 (unexamined h) few, o.examined_in))
+      | inr short ↦ inr (omega (arith, p.2, leb-false n (length (held h)) short))
+    ]
+
+-- a read for any number of bytes that waits has seen all
+pub plain_seen_all : (h : List Call) (mark count : ℕ) → IsLegal h → reply_to_read 0 h ≡ Pending mark count → mark ≡ length (total h)
+plain_seen_all h mark count legal e = elim (seen_all h 0 mark count legal e) [
+  | inl all ↦ all
+  | inr short ↦ absurd (omega (arith, short))
+]

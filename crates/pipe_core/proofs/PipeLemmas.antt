@@ -50,8 +50,8 @@ lend_front (Commit runs ∷ h) bytes legal e =
     ∙ sym (take-append-le (length bytes) (held h) (cond (is_none (reader_end h)) (bytes_of runs) []) within)
     ∙ sym (ap (λ (xs : List ℕ). take (length bytes) xs) (held_commit runs h legal.0))
 lend_front (EndWriter code ∷ h) bytes legal e = lend_front h bytes legal.0 e
-lend_front (Read ∷ h) bytes legal e =
-    let same : bytes ≡ held h = read_lends (read_is_ready h) (held h) bytes e in
+lend_front (Read n ∷ h) bytes legal e =
+    let same : bytes ≡ held h = read_lends (read_is_ready n h) (held h) bytes e in
     same ∙ sym (take_all (length bytes) (held h) (omega (arith, ap length same)))
 lend_front (Advance c x ∷ h) bytes legal e = absurd cc
 lend_front (EndReader code ∷ h) bytes legal e = absurd cc

@@ -1,7 +1,7 @@
 -- Marks that stand for a history stand for it with one more call, and tell the answers that it has.
 use Rattle.std.proofs.Common.{◌≡◌, ◌≤◌, ◌+◌, ◌-◌, ◌^◌, ◌⊎◌, inl, inr, ℕ, Bool, true, false, not, cond, ◌&&◌, ◌||◌, nat_lt, nat_le, max, List, [], ◌∷◌, ◌++◌, length, refl, sym, ap, subst, ◌∙◌, arith, Option, Some, None, append-nil}
 use Rattle.std.specs.Prelude.{is_some, is_none, IsSome, IsNone, IsSomeAnd, option_map, unwrap_or, replicate}
-use Rattle.std.proofs.lemmas.Bool.{and_parts, cases_lt, lt-ltb, lt-leb, le-ltb, ltb-false}
+use Rattle.std.proofs.lemmas.Bool.{and_parts, cases_lt, lt-ltb, le-ltb}
 use Rattle.std.proofs.lemmas.List.{length-append, length-drop, length-replicate}
 use Rattle.pipe_core.specs.declared.marks.Marks.{Marks}
 use Rattle.pipe_core.specs.declared.reply.Wake.{Wake}
@@ -9,54 +9,108 @@ use Rattle.pipe_core.specs.declared.reply.FlushReply.{FlushReply}
 use Rattle.pipe_core.specs.declared.reply.ReadReply.{ReadReply}
 use Rattle.pipe_core.specs.declared.reply.FlushReply.TheVariants as flush
 use Rattle.pipe_core.specs.declared.reply.ReadReply.TheVariants as read
-use Rattle.pipe_core.specs.History.{Run, Call, Commit, EndWriter, Read, Advance, EndReader, CancelRead, CancelFlush, bytes_of, reader_end}
-use Rattle.pipe_core.specs.Progress.{total, consumed, examined, unexamined, held, canceled_flush}
-use Rattle.pipe_core.specs.Pauses.{begins_pause, pause_stands, is_paused}
-use Rattle.pipe_core.specs.Reads.{read_is_ready, reply_to_read}
+use Rattle.pipe_core.specs.History.{Run, Call, Commit, EndWriter, Read, Advance, EndReader, CancelRead, CancelFlush, bytes_of, writer_end, reader_end}
+use Rattle.pipe_core.specs.Progress.{total, consumed, examined, unexamined, held, canceled_read}
+use Rattle.pipe_core.specs.Pauses.{begins_pause, lasts, pause_stands, is_paused}
+use Rattle.pipe_core.specs.Reads.{read_is_ready, reply_to_read, awaited, lacks}
 use Rattle.pipe_core.specs.Flushes.{flush_is_ready, reply_to_commit}
-use Rattle.pipe_core.specs.Wakes.{wake_of}
+use Rattle.pipe_core.specs.Wakes.{becomes_ready, wake_of}
 use Rattle.pipe_core.specs.Lends.{lend}
 use Rattle.pipe_core.specs.Answers.{Answer, Flushed, Gave, Woke, answer_to, ended_after, gone_after, lent_after}
 use Rattle.pipe_core.specs.Standing.{StandsFor, AreThresholds, MayAdvance, IsSound, ControlAnswers, Thresholds, thresholds_of}
-use Rattle.pipe_core.specs.Control.{reads_now, flush_goes, flushes_now, woken, total_with, pauses_at, pause_lasts}
-use Rattle.pipe_core.proofs.OrderLemmas.{ordered, total_commit}
+use Rattle.pipe_core.specs.Control.{reads_now, lacks_now, readies, lasts_now, pauses_now, flush_goes, flushes_now, woken, total_with}
+use Rattle.pipe_core.proofs.OrderLemmas.{ordered, total_commit, total_nothing}
+use Rattle.pipe_core.proofs.PauseLemmas.{lasts_over}
 
--- while a pause stands there are bytes enough
-pub stands_over : (pause resume : ℕ) (h : List Call) → pause_stands pause resume h ≡ true → nat_le resume (unexamined h) ≡ true
+-- Marks that tell how far a history has come, and for how many bytes its reader waits.
+pub record Counts (m : Marks) (h : List Call) : Type 0 where
+  pub committed : m.committed ≡ length (total h)
+  pub consumed : m.consumed ≡ consumed h
+  pub examined : m.examined ≡ examined h
+  pub ended : m.ended ≡ writer_end h
+  pub read_canceled : m.read_canceled ≡ canceled_read h
+  pub awaited : m.awaited ≡ awaited h
+
+counts : (m : Marks) (h : List Call) → StandsFor m h → Counts m h
+counts m h s = record { committed = s.committed; consumed = s.consumed; examined = s.examined; ended = s.ended; read_canceled = s.read_canceled; awaited = s.awaited }
+
+held_len : (m : Marks) (h : List Call) → Counts m h → m.committed - m.consumed ≡ length (held h)
+held_len m h s = rw (s.committed, s.consumed) (sym (length-drop (consumed h) (total h)))
+
+reads_is : (n : ℕ) (m : Marks) (h : List Call) → Counts m h → reads_now n m ≡ read_is_ready n h
+reads_is n m h s = rw (s.read_canceled, s.ended, held_len m h s, s.committed, s.examined) refl
+
+lacks_is : (o : Option ℕ) (m : Marks) (h : List Call) → Counts m h → lacks_now o m ≡ lacks o h
+lacks_is None m h s = refl
+lacks_is (Some n) m h s = ap (λ (b : Bool). nat_lt 0 n && not b) (reads_is n m h s)
+
+lasts_is : (m : Marks) (h : List Call) → Counts m h → lasts_now m ≡ lasts m.resume h
+lasts_is m h s =
+    let starved = ap (λ (o : Option ℕ). lacks_now o m) s.awaited ∙ lacks_is (awaited h) m h s in
+    rw (starved, s.committed, s.examined) refl
+
+-- while a pause stands it lasts
+stands_over : (pause resume : ℕ) (h : List Call) → pause_stands pause resume h ≡ true → lasts resume h ≡ true
 stands_over pause resume [] t = absurd cc
-stands_over pause resume (call ∷ h) t = (and_parts (nat_le resume (unexamined (call ∷ h))) (begins_pause pause call h || pause_stands pause resume h) t).0
+stands_over pause resume (call ∷ h) t = (and_parts (lasts resume (call ∷ h)) (begins_pause pause call h || pause_stands pause resume h) t).0
 
 keeps : (enough stood : Bool) → (stood ≡ true → enough ≡ true) → enough && stood ≡ stood
 keeps enough true imp = rw (imp refl) refl
 keeps true false imp = refl
 keeps false false imp = refl
 
--- a call that begins no pause and changes no mark leaves the pause
-pub paused_on : (pause resume : ℕ) (h : List Call) → is_paused pause resume h ≡ nat_lt 0 pause && is_none (reader_end h) && (nat_le resume (unexamined h) && pause_stands pause resume h)
-paused_on pause resume h = ap (λ (b : Bool). nat_lt 0 pause && is_none (reader_end h) && b) (sym (keeps (nat_le resume (unexamined h)) (pause_stands pause resume h) (stands_over pause resume h)))
+-- a call that begins no pause, and behind which one that stood lasts, leaves the pause
+paused_on : (pause resume : ℕ) (h : List Call) (enough : Bool) → (pause_stands pause resume h ≡ true → enough ≡ true)
+    → is_paused pause resume h ≡ nat_lt 0 pause && is_none (reader_end h) && (enough && pause_stands pause resume h)
+paused_on pause resume h enough imp = ap (λ (b : Bool). nat_lt 0 pause && is_none (reader_end h) && b) (sym (keeps enough (pause_stands pause resume h) imp))
 
-not_both : (a b : ℕ) → nat_lt a b && nat_le b a ≡ false
-not_both a b = elim (cases_lt a b) [
-  | inl lt ↦ rw (lt-ltb a b lt, lt-leb b a lt) refl
-  | inr le ↦ rw (le-ltb a b le) refl
-]
+pub and_false : (b : Bool) → b && false ≡ false
+and_false true = refl
+and_false false = refl
 
-none_added : (b : Bool) (t : List ℕ) → t ++ cond b [] [] ≡ t
-none_added true t = append-nil t
-none_added false t = append-nil t
+-- behind a call that makes every read ready nobody lacks anything, and behind one that no read asks for, who did before
+pub canceled_lacks : (o : Option ℕ) (h : List Call) → lacks o (CancelRead ∷ h) ≡ false
+canceled_lacks None h = refl
+canceled_lacks (Some n) h = and_false _
 
--- a commit of nothing neither begins nor ends a pause
-pub paused_by_nothing : (pause resume : ℕ) (h : List Call) → is_paused pause resume (Commit [] ∷ h) ≡ is_paused pause resume h
-paused_by_nothing pause resume h =
-    let same : total (Commit [] ∷ h) ≡ total h = total_commit [] h ∙ none_added (is_none (reader_end h)) (total h) in
-    rw same (rw (not_both (unexamined h) pause) (sym (paused_on pause resume h)))
+pub ended_lacks : (o : Option ℕ) (code : ℕ) (h : List Call) → lacks o (EndWriter code ∷ h) ≡ false
+ended_lacks None code h = refl
+ended_lacks (Some n) code h = ready (canceled_read h) (nat_lt 0 n) (nat_lt 0 (unexamined h) && nat_le n (length (held h)))
+  where
+    ready : (canceled some more : Bool) → some && not (canceled || true || more) ≡ false
+    ready true some more = and_false some
+    ready false some more = and_false some
 
-reads_is : (m : Marks) (h : List Call) → StandsFor m h → reads_now m ≡ read_is_ready h
-reads_is m h s = rw (s.read_canceled, s.ended, s.committed, s.examined) refl
+still_lacks : (o : Option ℕ) (h : List Call) → lacks o (CancelFlush ∷ h) ≡ lacks o h
+still_lacks None h = refl
+still_lacks (Some n) h = refl
+
+rejoined : (on attended lasts begins stood : Bool) → on && attended && (lasts && (begins || (on && attended && stood))) ≡ on && attended && (lasts && (begins || stood))
+rejoined true true lasts begins stood = refl
+rejoined true false lasts begins stood = refl
+rejoined false attended lasts begins stood = refl
+
+-- marks that count a commit, with the pause before it, tell the pause behind it
+paused_is : (m : Marks) (runs : List Run) (h : List Call) → Counts m (Commit runs ∷ h) → m.gone ≡ reader_end h → m.paused ≡ is_paused m.pause m.resume h
+    → pauses_now m ≡ is_paused m.pause m.resume (Commit runs ∷ h)
+paused_is m runs h s gone paused =
+    rw (lasts_is m (Commit runs ∷ h) s, gone, paused, s.committed, s.examined)
+    (rejoined (nat_lt 0 m.pause) (is_none (reader_end h)) (lasts m.resume (Commit runs ∷ h)) (nat_le m.pause (unexamined (Commit runs ∷ h))) (pause_stands m.pause m.resume h))
+
+-- a commit of nothing changes no count
+counts_nothing : (m : Marks) (h : List Call) → Counts m h → Counts m (Commit [] ∷ h)
+counts_nothing m h s = record {
+  committed = s.committed ∙ ap length (sym (total_nothing h));
+  consumed = s.consumed;
+  examined = s.examined;
+  ended = s.ended;
+  read_canceled = s.read_canceled;
+  awaited = s.awaited;
+}
 
 flushes_is : (m : Marks) (h : List Call) → StandsFor m h → flushes_now m ≡ flush_is_ready m.pause m.resume h []
 flushes_is m h s =
-    rw (s.flush_canceled, s.gone) (ap (λ (b : Bool). canceled_flush h || is_some (reader_end h) || not b) (s.paused ∙ sym (paused_by_nothing m.pause m.resume h)))
+    ap (λ (b : Bool). flush_goes m.flush_canceled m.gone b) (paused_is m [] h (counts_nothing m h (counts m h s)) s.gone s.paused) ∙ (rw (s.flush_canceled, s.gone) refl)
 
 pub same_thresholds : (m n : Marks) → n.pause ≡ m.pause → n.resume ≡ m.resume → thresholds_of n ≡ thresholds_of m
 same_thresholds m n pause resume = rw (pause, resume) refl
@@ -67,13 +121,20 @@ wake_by reader writer = record { reader = reader; writer = writer }
 both : (r r' w w' : Bool) → r ≡ r' → w ≡ w' → wake_by r w ≡ wake_by r' w'
 both r r' w w' e f = rw (e, f) refl
 
+readies_is : (o : Option ℕ) (m n : Marks) (call : Call) (h : List Call) → Counts m h → Counts n (call ∷ h) → readies o m n ≡ becomes_ready o call h
+readies_is None m n call h s t = refl
+readies_is (Some k) m n call h s t = rw (reads_is k m h s, reads_is k n (call ∷ h) t) refl
+
+goes_by : (w w' f f' g g' : Bool) → w ≡ w' → f ≡ f' → g ≡ g' → w && not f && g ≡ w' && not f' && g'
+goes_by w w' f f' g g' a b c = rw (a, b, c) refl
+
 -- the wake of a call is read off the marks before and after it
 pub wake_is : (m n : Marks) (call : Call) (h : List Call) → n.pause ≡ m.pause → n.resume ≡ m.resume → StandsFor m h → StandsFor n (call ∷ h) → woken m n ≡ wake_of m.pause m.resume call h
 wake_is m n call h pause resume s t =
     let after = subst (λ (s : Thresholds). flushes_now n ≡ flush_is_ready s.pause s.resume (call ∷ h) []) (same_thresholds m n pause resume) (flushes_is n (call ∷ h) t) in
     both _ _ _ _
-    (rw (s.reader_waits, reads_is m h s, reads_is n (call ∷ h) t) refl)
-    (rw (s.writer_waits, flushes_is m h s, after) refl)
+    (ap (λ (o : Option ℕ). readies o m n) s.awaited ∙ readies_is (awaited h) m n call h (counts m h s) (counts n (call ∷ h) t))
+    (goes_by _ _ _ _ _ _ s.writer_waits (flushes_is m h s) after)
 
 -- marks that stand for a history are sound
 sound_of : (m : Marks) (h : List Call) → AreThresholds m.pause m.resume → StandsFor m h → IsSound m
@@ -122,9 +183,9 @@ after_cancel_read m h s = record {
   gone = s.gone;
   read_canceled = refl;
   flush_canceled = s.flush_canceled;
-  paused = s.paused ∙ paused_on m.pause m.resume h;
+  paused = s.paused ∙ paused_on m.pause m.resume h (lasts m.resume (CancelRead ∷ h)) (λ stood. lasts_over m.resume h (CancelRead ∷ h) (omega arith) (λ fed. canceled_lacks (awaited h) h) (stands_over m.pause m.resume h stood));
   lent = s.lent;
-  reader_waits = s.reader_waits;
+  awaited = s.awaited;
   writer_waits = s.writer_waits;
 }
 
@@ -138,9 +199,9 @@ after_cancel_flush m h s = record {
   gone = s.gone;
   read_canceled = s.read_canceled;
   flush_canceled = refl;
-  paused = s.paused ∙ paused_on m.pause m.resume h;
+  paused = s.paused ∙ paused_on m.pause m.resume h (lasts m.resume (CancelFlush ∷ h)) (λ stood. lasts_over m.resume h (CancelFlush ∷ h) (omega arith) (λ fed. still_lacks (awaited h) h ∙ fed) (stands_over m.pause m.resume h stood));
   lent = s.lent;
-  reader_waits = s.reader_waits;
+  awaited = s.awaited;
   writer_waits = s.writer_waits;
 }
 
@@ -154,9 +215,9 @@ after_end_writer m code h unended s = record {
   gone = s.gone;
   read_canceled = s.read_canceled;
   flush_canceled = s.flush_canceled;
-  paused = s.paused ∙ paused_on m.pause m.resume h;
+  paused = s.paused ∙ paused_on m.pause m.resume h (lasts m.resume (EndWriter code ∷ h)) (λ stood. lasts_over m.resume h (EndWriter code ∷ h) (omega arith) (λ fed. ended_lacks (awaited h) code h) (stands_over m.pause m.resume h stood));
   lent = s.lent;
-  reader_waits = s.reader_waits;
+  awaited = s.awaited;
   writer_waits = refl;
 }
 
@@ -165,7 +226,7 @@ never true b = refl
 never false b = refl
 
 pub after_end_reader : (m : Marks) (code : ℕ) (h : List Call) → IsNone m.gone → StandsFor m h
-    → StandsFor (record m { gone = Some code; paused = false; lent = None; reader_waits = false }) (EndReader code ∷ h)
+    → StandsFor (record m { gone = Some code; paused = false; lent = None; awaited = None }) (EndReader code ∷ h)
 after_end_reader m code h attended s = record {
   legal = (s.legal, rw (← s.gone) attended);
   committed = s.committed;
@@ -175,9 +236,9 @@ after_end_reader m code h attended s = record {
   gone = refl;
   read_canceled = s.read_canceled;
   flush_canceled = s.flush_canceled;
-  paused = never (nat_lt 0 m.pause) (nat_le m.resume (unexamined h) && pause_stands m.pause m.resume h);
+  paused = never (nat_lt 0 m.pause) (lasts m.resume (EndReader code ∷ h) && pause_stands m.pause m.resume h);
   lent = refl;
-  reader_waits = refl;
+  awaited = refl;
   writer_waits = s.writer_waits;
 }
 
@@ -191,28 +252,54 @@ lent_len true false bytes n e f = absurd cc
 lent_len false true bytes n e f = absurd cc
 lent_len false false bytes n e f = refl
 
-held_len : (m : Marks) (h : List Call) → StandsFor m h → m.committed - m.consumed ≡ length (held h)
-held_len m h s = rw (s.committed, s.consumed) (sym (length-drop (consumed h) (total h)))
+awaits : (b c : Bool) (n : ℕ) → b ≡ c → cond b None (Some n) ≡ cond c None (Some n)
+awaits b c n e = rw e refl
 
-pub after_read : (m : Marks) (h : List Call) → IsNone m.gone → IsNone m.lent → StandsFor m h
-    → StandsFor (record m { read_canceled = false; lent = cond (reads_now m) (Some (m.committed - m.consumed)) None; reader_waits = not (reads_now m) }) (Read ∷ h)
-after_read m h attended no_lend s = record {
-  legal = (s.legal, (rw (← s.gone) attended, none_lent (lend h) (rw (← s.lent) no_lend)));
+-- a pause that lasts, as the marks have it
+regrouped : (on attended stood lasts : Bool) → (on && attended && stood) && lasts ≡ on && attended && (lasts && stood)
+regrouped true true true true = refl
+regrouped true true true false = refl
+regrouped true true false true = refl
+regrouped true true false false = refl
+regrouped true false stood lasts = refl
+regrouped false attended stood lasts = refl
+
+-- the marks behind a read, but for the pause
+abbrev read_marks : Marks → ℕ → Marks
+read_marks m n = record m { read_canceled = false; lent = cond (reads_now n m) (Some (m.committed - m.consumed)) None; awaited = cond (reads_now n m) None (Some n) }
+
+read_counts : (m : Marks) (n : ℕ) (h : List Call) → StandsFor m h → Counts (read_marks m n) (Read n ∷ h)
+read_counts m n h s = record {
   committed = s.committed;
   consumed = s.consumed;
   examined = s.examined;
   ended = s.ended;
-  gone = s.gone;
   read_canceled = refl;
-  flush_canceled = s.flush_canceled;
-  paused = s.paused ∙ paused_on m.pause m.resume h;
-  lent = lent_len (reads_now m) (read_is_ready h) (held h) (m.committed - m.consumed) (reads_is m h s) (held_len m h s);
-  reader_waits = ap not (reads_is m h s);
-  writer_waits = s.writer_waits;
+  awaited = awaits _ _ n (reads_is n m h (counts m h s));
 }
 
-pub told_read : (m : Marks) (h : List Call) → StandsFor m h → cond (reads_now m) (read.Ready m.read_canceled m.ended (m.committed - m.consumed)) (read.Pending m.examined) ≡ reply_to_read h
-told_read m h s = rw (reads_is m h s, s.read_canceled, s.ended, held_len m h s, s.examined) refl
+pub after_read : (m : Marks) (n : ℕ) (h : List Call) → n ≤ 2 ^ 62 → IsNone m.gone → IsNone m.lent → StandsFor m h
+    → StandsFor (record (read_marks m n) { paused = m.paused && lasts_now (read_marks m n) }) (Read n ∷ h)
+after_read m n h most attended no_lend s =
+    let c = read_counts m n h s in
+    record {
+      legal = (s.legal, (rw (← s.gone) attended, none_lent (lend h) (rw (← s.lent) no_lend), most));
+      committed = s.committed;
+      consumed = s.consumed;
+      examined = s.examined;
+      ended = s.ended;
+      gone = s.gone;
+      read_canceled = refl;
+      flush_canceled = s.flush_canceled;
+      paused = rw (lasts_is (read_marks m n) (Read n ∷ h) c, s.paused) (regrouped (nat_lt 0 m.pause) (is_none (reader_end h)) (pause_stands m.pause m.resume h) (lasts m.resume (Read n ∷ h)));
+      lent = lent_len (reads_now n m) (read_is_ready n h) (held h) (m.committed - m.consumed) (reads_is n m h (counts m h s)) (held_len m h (counts m h s));
+      awaited = c.awaited;
+      writer_waits = s.writer_waits;
+    }
+
+pub told_read : (m : Marks) (n : ℕ) (h : List Call) → StandsFor m h
+    → cond (reads_now n m) (read.Ready m.read_canceled m.ended (m.committed - m.consumed)) (read.Pending m.examined (m.committed - m.consumed)) ≡ reply_to_read n h
+told_read m n h s = rw (reads_is n m h (counts m h s), held_len m h (counts m h s), s.read_canceled, s.ended, s.examined) refl
 
 may_advance : (o : Option (List ℕ)) (c e : ℕ) → MayAdvance (option_map length o) c e → IsSomeAnd o (λ bytes. (c ≤ e) × (e ≤ length bytes))
 may_advance (Some bytes) c e may = may
@@ -222,31 +309,29 @@ attended_by : (o : Option (List ℕ)) (c e : ℕ) (P : Type 0) → MayAdvance (o
 attended_by (Some bytes) c e P may p = p bytes refl
 attended_by None c e P may p = elim may [ ]
 
-regrouped : (a b s l : Bool) → (a && b && s) && l ≡ a && b && (l && s)
-regrouped true true true true = refl
-regrouped true true true false = refl
-regrouped true true false true = refl
-regrouped true true false false = refl
-regrouped true false s l = refl
-regrouped false b s l = refl
+-- the marks behind an advance, but for the pause
+abbrev moved : Marks → ℕ → ℕ → Marks
+moved m c x = record m { consumed = m.consumed + c; examined = x; lent = None; awaited = None }
 
 pub after_advance : (m : Marks) (c e x : ℕ) (h : List Call) → MayAdvance m.lent c e → x ≡ max m.examined (m.consumed + e) → StandsFor m h
-    → StandsFor (record m { consumed = m.consumed + c; examined = x; paused = pause_lasts m x; lent = None; reader_waits = false }) (Advance c e ∷ h)
+    → StandsFor (record (moved m c x) { paused = m.paused && lasts_now (moved m c x) }) (Advance c e ∷ h)
 after_advance m c e x h may is s =
     let allowed : MayAdvance (option_map length (lend h)) c e = rw (← s.lent) may in
     let mark : x ≡ examined (Advance c e ∷ h) = is ∙ (rw (s.examined, s.consumed) refl) in
+    let given : m.consumed + c ≡ consumed (Advance c e ∷ h) = ap (λ (n : ℕ). n + c) s.consumed in
+    let k : Counts (moved m c x) (Advance c e ∷ h) = record { committed = s.committed; consumed = given; examined = mark; ended = s.ended; read_canceled = s.read_canceled; awaited = refl } in
     record {
       legal = (s.legal, (attended_by (lend h) c e (IsNone (reader_end h)) allowed (ordered h s.legal).attended, may_advance (lend h) c e allowed));
       committed = s.committed;
-      consumed = ap (λ (n : ℕ). n + c) s.consumed;
+      consumed = given;
       examined = mark;
       ended = s.ended;
       gone = s.gone;
       read_canceled = s.read_canceled;
       flush_canceled = s.flush_canceled;
-      paused = rw (s.paused, s.committed, mark) (regrouped (nat_lt 0 m.pause) (is_none (reader_end h)) (pause_stands m.pause m.resume h) (nat_le m.resume (unexamined (Advance c e ∷ h))));
+      paused = rw (lasts_is (moved m c x) (Advance c e ∷ h) k, s.paused) (regrouped (nat_lt 0 m.pause) (is_none (reader_end h)) (pause_stands m.pause m.resume h) (lasts m.resume (Advance c e ∷ h)));
       lent = refl;
-      reader_waits = refl;
+      awaited = refl;
       writer_waits = s.writer_waits;
     }
 
@@ -293,30 +378,22 @@ may_commit m n t runs h size fits s = elim (grown m.gone m.committed n t fits) [
   | inr kept ↦ inr (omega (arith, kept.1, kept.2, s.committed, size))
 ]
 
-rejoined : (a b l beg s : Bool) → (a ≡ false → beg ≡ false) → b && l && (beg || (a && b && s)) ≡ a && b && (l && (beg || s))
-rejoined true true true true s imp = refl
-rejoined true true true false s imp = refl
-rejoined true true false beg s imp = refl
-rejoined true false l beg s imp = refl
-rejoined false true true beg s imp = rw (imp refl) refl
-rejoined false true false beg s imp = refl
-rejoined false false l beg s imp = refl
+-- the marks behind a commit, but for the pause and the flags of flushes
+abbrev grown_to : Marks → ℕ → Marks
+grown_to m t = record m { committed = t }
 
-unpaused : (pause u v : ℕ) → nat_lt 0 pause ≡ false → nat_lt u pause && nat_le pause v ≡ false
-unpaused pause u v off = rw (le-ltb u pause (omega (arith, ltb-false 0 pause off))) refl
-
-paused_is : (m : Marks) (t : ℕ) (runs : List Run) (h : List Call) → t ≡ length (total (Commit runs ∷ h)) → StandsFor m h → pauses_at m t ≡ is_paused m.pause m.resume (Commit runs ∷ h)
-paused_is m t runs h whole s =
-    rw (s.gone, s.paused, s.committed, s.examined, whole)
-    (rejoined (nat_lt 0 m.pause) (is_none (reader_end h)) (nat_le m.resume (unexamined (Commit runs ∷ h))) (begins_pause m.pause (Commit runs) h) (pause_stands m.pause m.resume h)
-    (unpaused m.pause (unexamined h) (unexamined (Commit runs ∷ h))))
+pause_is : (m : Marks) (t : ℕ) (runs : List Run) (h : List Call) → t ≡ length (total (Commit runs ∷ h)) → StandsFor m h
+    → pauses_now (grown_to m t) ≡ is_paused m.pause m.resume (Commit runs ∷ h)
+pause_is m t runs h whole s =
+    let k : Counts (grown_to m t) (Commit runs ∷ h) = record { committed = whole; consumed = s.consumed; examined = s.examined; ended = s.ended; read_canceled = s.read_canceled; awaited = s.awaited } in
+    paused_is (grown_to m t) runs h k s.gone s.paused
 
 flush_is : (m : Marks) (t : ℕ) (runs : List Run) (h : List Call) → t ≡ length (total (Commit runs ∷ h)) → StandsFor m h
-    → flush_goes m.flush_canceled m.gone (pauses_at m t) ≡ flush_is_ready m.pause m.resume h runs
-flush_is m t runs h whole s = rw (paused_is m t runs h whole s, s.flush_canceled, s.gone) refl
+    → flush_goes m.flush_canceled m.gone (pauses_now (grown_to m t)) ≡ flush_is_ready m.pause m.resume h runs
+flush_is m t runs h whole s = rw (pause_is m t runs h whole s, s.flush_canceled, s.gone) refl
 
 pub after_commit : (m : Marks) (n t : ℕ) (runs : List Run) (h : List Call) → IsNone m.ended → length (bytes_of runs) ≡ n → total_with m n ≡ Some t → StandsFor m h
-    → StandsFor (record m { committed = t; flush_canceled = false; paused = pauses_at m t; writer_waits = not (flush_goes m.flush_canceled m.gone (pauses_at m t)) }) (Commit runs ∷ h)
+    → StandsFor (record m { committed = t; flush_canceled = false; paused = pauses_now (grown_to m t); writer_waits = not (flush_goes m.flush_canceled m.gone (pauses_now (grown_to m t))) }) (Commit runs ∷ h)
 after_commit m n t runs h unended size fits s =
     let whole = total_is m n t runs h size fits s in
     record {
@@ -328,21 +405,21 @@ after_commit m n t runs h unended size fits s =
       gone = s.gone;
       read_canceled = s.read_canceled;
       flush_canceled = refl;
-      paused = paused_is m t runs h whole s;
+      paused = pause_is m t runs h whole s;
       lent = s.lent;
-      reader_waits = s.reader_waits;
+      awaited = s.awaited;
       writer_waits = ap not (flush_is m t runs h whole s);
     }
 
 pub told_commit : (m : Marks) (n t : ℕ) (runs : List Run) (h : List Call) → length (bytes_of runs) ≡ n → total_with m n ≡ Some t → StandsFor m h
-    → cond (flush_goes m.flush_canceled m.gone (pauses_at m t)) (flush.Ready m.flush_canceled m.gone) (flush.Pending (t - m.examined)) ≡ reply_to_commit m.pause m.resume h runs
+    → cond (flush_goes m.flush_canceled m.gone (pauses_now (grown_to m t))) (flush.Ready m.flush_canceled m.gone) (flush.Pending (t - m.examined)) ≡ reply_to_commit m.pause m.resume h runs
 told_commit m n t runs h size fits s =
     let whole = total_is m n t runs h size fits s in
     rw (flush_is m t runs h whole s, s.flush_canceled, s.gone, s.examined, whole) refl
 
 -- an advance, with the mark that it leaves and the pause
-pub advances : (m : Marks) (c e x : ℕ) (paused : Bool) (wake : Wake) → MayAdvance m.lent c e → x ≡ max m.examined (m.consumed + e) → paused ≡ pause_lasts m x
-    → (n : Marks) → n ≡ record m { consumed = m.consumed + c; examined = x; paused = paused; lent = None; reader_waits = false } → wake ≡ woken m n
+pub advances : (m : Marks) (c e x : ℕ) (paused : Bool) (wake : Wake) → MayAdvance m.lent c e → x ≡ max m.examined (m.consumed + e) → paused ≡ m.paused && lasts_now (moved m c x)
+    → (n : Marks) → n ≡ record (moved m c x) { paused = paused } → wake ≡ woken m n
     → (IsSound m → IsSound n) × ControlAnswers m (Advance c e) (Woke wake) n
 advances m c e x paused wake may mark is n new wakes =
     let stands : (h : List Call) → StandsFor m h → StandsFor n (Advance c e ∷ h) = λ h s. rw (new, is) (after_advance m c e x h may mark s) in
@@ -350,29 +427,30 @@ advances m c e x paused wake may mark is n new wakes =
     let resume : n.resume ≡ m.resume = rw new refl in
     (λ sound. sound_after m n (Advance c e) pause resume sound stands, woke m n (Advance c e) wake pause resume wakes stands (λ h. refl) (rw new refl) (rw new refl) (rw new refl))
 
-lent_told : (ready : Bool) (len : ℕ) (canceled : Bool) (ended : Option ℕ) (examined : ℕ) (reply : ReadReply) (wake : Wake) (lent : Option ℕ)
-    → reply ≡ cond ready (read.Ready canceled ended len) (read.Pending examined) → cond ready (Some len) None ≡ lent_after Read (Gave reply wake) lent
-lent_told true len canceled ended examined reply wake lent e = rw e refl
-lent_told false len canceled ended examined reply wake lent e = rw e refl
+lent_told : (ready : Bool) (k held : ℕ) (canceled : Bool) (ended : Option ℕ) (examined : ℕ) (reply : ReadReply) (wake : Wake) (lent : Option ℕ)
+    → reply ≡ cond ready (read.Ready canceled ended held) (read.Pending examined held) → cond ready (Some held) None ≡ lent_after (Read k) (Gave reply wake) lent
+lent_told true k held canceled ended examined reply wake lent e = rw e refl
+lent_told false k held canceled ended examined reply wake lent e = rw e refl
 
--- a read, with the flag that says whether it is ready
-pub reads : (m : Marks) (ready : Bool) (lent : Option ℕ) (reply : ReadReply) (wake : Wake) → IsNone m.gone → IsNone m.lent → ready ≡ reads_now m
-    → lent ≡ cond ready (Some (m.committed - m.consumed)) None
-    → reply ≡ cond ready (read.Ready m.read_canceled m.ended (m.committed - m.consumed)) (read.Pending m.examined)
-    → (n : Marks) → n ≡ record m { read_canceled = false; lent = lent; reader_waits = not ready } → wake ≡ woken m n
-    → (IsSound m → IsSound n) × ControlAnswers m Read (Gave reply wake) n
-reads m ready lent reply wake attended no_lend is lends told n new woke =
-    let stands : (h : List Call) → StandsFor m h → StandsFor n (Read ∷ h) = λ h s. rw (new, lends, is) (after_read m h attended no_lend s) in
+-- a read, with the flag that says whether it is ready, what it lends, what it waits for and the pause
+pub reads : (m : Marks) (k : ℕ) (ready paused : Bool) (lent waits : Option ℕ) (reply : ReadReply) (wake : Wake) → k ≤ 2 ^ 62 → IsNone m.gone → IsNone m.lent → ready ≡ reads_now k m
+    → lent ≡ cond ready (Some (m.committed - m.consumed)) None → waits ≡ cond ready None (Some k)
+    → paused ≡ m.paused && lasts_now (record m { read_canceled = false; lent = lent; awaited = waits })
+    → reply ≡ cond ready (read.Ready m.read_canceled m.ended (m.committed - m.consumed)) (read.Pending m.examined (m.committed - m.consumed))
+    → (n : Marks) → n ≡ record m { read_canceled = false; lent = lent; awaited = waits; paused = paused } → wake ≡ woken m n
+    → (IsSound m → IsSound n) × ControlAnswers m (Read k) (Gave reply wake) n
+reads m k ready paused lent waits reply wake most attended no_lend is lends awaits pauses told n new woke =
+    let stands : (h : List Call) → StandsFor m h → StandsFor n (Read k ∷ h) = λ h s. rw (new, pauses, lends, awaits, is) (after_read m k h most attended no_lend s) in
     let pause : n.pause ≡ m.pause = rw new refl in
     let resume : n.resume ≡ m.resume = rw new refl in
-    let told_so : (h : List Call) → StandsFor m h → Gave reply wake ≡ answer_to m.pause m.resume Read h = λ h s.
-    let reply_is : reply ≡ reply_to_read h = told ∙ (rw is (told_read m h s)) in
-    let wake_is : wake ≡ wake_of m.pause m.resume Read h = woke ∙ wake_is m n Read h pause resume s (stands h s) in
+    let told_so : (h : List Call) → StandsFor m h → Gave reply wake ≡ answer_to m.pause m.resume (Read k) h = λ h s.
+    let reply_is : reply ≡ reply_to_read k h = told ∙ (rw is (told_read m k h s)) in
+    let wake_is : wake ≡ wake_of m.pause m.resume (Read k) h = woke ∙ wake_is m n (Read k) h pause resume s (stands h s) in
     rw (reply_is, wake_is) refl in
-    leaves m n Read (Gave reply wake) pause resume stands told_so (rw new refl) (rw new refl) (rw new (lends ∙ lent_told ready (m.committed - m.consumed) m.read_canceled m.ended m.examined reply wake m.lent told))
+    leaves m n (Read k) (Gave reply wake) pause resume stands told_so (rw new refl) (rw new refl) (rw new (lends ∙ lent_told ready k (m.committed - m.consumed) m.read_canceled m.ended m.examined reply wake m.lent told))
 
 -- a commit, with the total that it leaves, the pause and the flag that says whether it is ready
-pub commits : (m : Marks) (size t : ℕ) (paused ready : Bool) (reply : FlushReply) (wake : Wake) → IsNone m.ended → total_with m size ≡ Some t → paused ≡ pauses_at m t
+pub commits : (m : Marks) (size t : ℕ) (paused ready : Bool) (reply : FlushReply) (wake : Wake) → IsNone m.ended → total_with m size ≡ Some t → paused ≡ pauses_now (grown_to m t)
     → ready ≡ flush_goes m.flush_canceled m.gone paused → reply ≡ cond ready (flush.Ready m.flush_canceled m.gone) (flush.Pending (t - m.examined))
     → (n : Marks) → n ≡ record m { committed = t; flush_canceled = false; paused = paused; writer_waits = not ready } → wake ≡ woken m n
     → (runs : List Run) → length (bytes_of runs) ≡ size → (IsSound m → IsSound n) × ControlAnswers m (Commit runs) (Flushed reply wake) n

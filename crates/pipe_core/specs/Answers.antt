@@ -19,7 +19,7 @@ pub data Answer : Type 0 where
 -- the answer to a call in h
 abbrev pub answer_to : ℕ → ℕ → Call → List Call → Answer
 answer_to pause resume (Commit runs) h = Flushed (reply_to_commit pause resume h runs) (wake_of pause resume (Commit runs) h)
-answer_to pause resume Read h = Gave (reply_to_read h) (wake_of pause resume Read h)
+answer_to pause resume (Read n) h = Gave (reply_to_read n h) (wake_of pause resume (Read n) h)
 answer_to pause resume call h = Woke (wake_of pause resume call h)
 
 -- the answers to calls that are made in this order after h
@@ -46,8 +46,8 @@ gone_after (EndReader code) before = Some code
 gone_after call before = before
 
 abbrev pub lent_after : Call → Answer → Option ℕ → Option ℕ
-lent_after Read (Gave (read.Ready canceled ended len) wake) before = Some len
-lent_after Read answer before = None
+lent_after (Read n) (Gave (read.Ready canceled ended len) wake) before = Some len
+lent_after (Read n) answer before = None
 lent_after (Advance c e) answer before = None
 lent_after (EndReader code) answer before = None
 lent_after call answer before = before

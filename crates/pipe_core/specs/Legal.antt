@@ -7,7 +7,7 @@ use Rattle.pipe_core.specs.Lends.{lend}
 abbrev pub MayFollow : Call → List Call → Type 0
 MayFollow (Commit runs) h = IsNone (writer_end h) × (IsSome (reader_end h) ⊎ length (total h) + length (bytes_of runs) ≤ 2 ^ 62)
 MayFollow (EndWriter code) h = IsNone (writer_end h)
-MayFollow Read h = IsNone (reader_end h) × IsNone (lend h)
+MayFollow (Read n) h = IsNone (reader_end h) × IsNone (lend h) × (n ≤ 2 ^ 62)
 MayFollow (Advance c e) h = IsNone (reader_end h) × IsSomeAnd (lend h) (λ bytes. (c ≤ e) × (e ≤ length bytes))
 MayFollow (EndReader code) h = IsNone (reader_end h)
 MayFollow CancelRead h = Unit {0}

@@ -6,7 +6,7 @@ use Rattle.pipe_core.specs.Reads.{read_is_ready}
 
 -- what a call lends: a read that is ready, all that is committed and not consumed
 abbrev pub bytes_lent_by : Option (Call × List Call) → Option (List ℕ)
-bytes_lent_by (Some (Read, before)) = if read_is_ready before then Some (held before) else None
+bytes_lent_by (Some (Read n, before)) = if read_is_ready n before then Some (held before) else None
 bytes_lent_by last = None
 
 -- the bytes of the lend, where one stands: the reader's last call lends them

@@ -2,6 +2,7 @@ pub mod History
 pub mod Progress
 pub mod Examined
 pub mod Reads
+pub mod PlainPauses
 pub mod Pauses
 pub mod Flushes
 pub mod Wakes

@@ -4,7 +4,7 @@ use Rattle.pipe_core.specs.declared.marks.Marks.{Marks}
 use Rattle.pipe_core.specs.History.{Call, writer_end, reader_end}
 use Rattle.pipe_core.specs.Progress.{total, consumed, examined, canceled_read, canceled_flush}
 use Rattle.pipe_core.specs.Pauses.{is_paused}
-use Rattle.pipe_core.specs.Reads.{reader_waits}
+use Rattle.pipe_core.specs.Reads.{awaited}
 use Rattle.pipe_core.specs.Flushes.{writer_waits}
 use Rattle.pipe_core.specs.Lends.{lend}
 use Rattle.pipe_core.specs.Legal.{IsLegal}
@@ -22,7 +22,7 @@ pub record StandsFor (m : Marks) (h : List Call) : Type 0 where
   pub flush_canceled : m.flush_canceled ≡ canceled_flush h
   pub paused : m.paused ≡ is_paused m.pause m.resume h
   pub lent : m.lent ≡ option_map length (lend h)
-  pub reader_waits : m.reader_waits ≡ reader_waits h
+  pub awaited : m.awaited ≡ awaited h
   pub writer_waits : m.writer_waits ≡ writer_waits m.pause m.resume h
 
 -- The thresholds that a pipe may have: no pause at all, or one that ends below a threshold of at least 1.

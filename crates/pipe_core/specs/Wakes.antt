@@ -1,13 +1,18 @@
 -- Whom a call wakes.
-use Rattle.std.specs.Prelude.{ℕ, Bool, false, not, ◌&&◌, ◌||◌, List, [], ◌∷◌, ◌++◌}
+use Rattle.std.specs.Prelude.{ℕ, Bool, false, not, ◌&&◌, ◌||◌, List, [], ◌∷◌, ◌++◌, Option, Some, None}
 use Rattle.pipe_core.specs.declared.reply.Wake.{Wake}
 use Rattle.pipe_core.specs.History.{Call}
-use Rattle.pipe_core.specs.Reads.{read_is_ready, reader_waits}
+use Rattle.pipe_core.specs.Reads.{read_is_ready, awaited}
 use Rattle.pipe_core.specs.Flushes.{flush_is_ready, writer_waits}
+
+-- whether a call in h makes the read that waits for so many bytes ready, which was not
+abbrev pub becomes_ready : Option ℕ → Call → List Call → Bool
+becomes_ready None call h = false
+becomes_ready (Some n) call h = not (read_is_ready n h) && read_is_ready n (call ∷ h)
 
 -- An end is woken by a call in h where it waits, and the call makes ready what was not.
 abbrev pub wakes_reader : Call → List Call → Bool
-wakes_reader call h = reader_waits h && not (read_is_ready h) && read_is_ready (call ∷ h)
+wakes_reader call h = becomes_ready (awaited h) call h
 
 abbrev pub wakes_writer : ℕ → ℕ → Call → List Call → Bool
 wakes_writer pause resume call h = writer_waits pause resume h && not (flush_is_ready pause resume h []) && flush_is_ready pause resume (call ∷ h) []

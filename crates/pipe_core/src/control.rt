@@ -5,7 +5,7 @@ ghost use Rattle.pipe_core.specs.History.{Run, Commit, EndWriter, Read, Advance,
 ghost use Rattle.pipe_core.specs.Answers.{Flushed, Gave, Woke};
 ghost use Rattle.pipe_core.specs.Standing.{StandsFor, AreThresholds, MayAdvance, ControlAnswers};
 
-use crate::marks::{Marks, flush_goes, flush_reply, lent_where, read_reply};
+use crate::marks::{Marks, awaited_where, flush_goes, flush_reply, lent_where, read_reply};
 use crate::reply::{FlushReply, ReadReply, TooMuch, Wake};
 use std::marker::Model;
 
@@ -53,7 +53,7 @@ impl Control {
                 flush_canceled: false,
                 paused: false,
                 lent: None,
-                reader_waits: false,
+                awaited: None,
                 writer_waits: false,
             },
         }
@@ -77,7 +77,11 @@ impl Control {
                 total: before.committed,
             });
         };
-        let paused = before.pauses_at(committed);
+        let grown = Marks {
+            committed,
+            ..before
+        };
+        let paused = grown.pauses_now();
         let ready = flush_goes(before.flush_canceled, before.gone, paused);
         let after = Marks {
             committed,
@@ -97,23 +101,39 @@ impl Control {
     pub fn read(&mut self) -> (ReadReply, Wake)
         requires attended { IsNone self.old.gone }
         requires no_lend { IsNone self.old.lent }
-        ensures { ControlAnswers self.old Read (Gave result.0 result.1) self.new }
+        ensures { ControlAnswers self.old (Read 0) (Gave result.0 result.1) self.new }
+    {
+        self.read_at_least(0)
+    }
+
+    /// The same for at least `n` bytes, as `PipeReader.ReadAtLeastAsync(minimumSize)` does. Pending also where fewer are
+    /// committed and not consumed. A read for 1 byte or more that is answered Pending ends a pause, and none begins while
+    /// it waits; one for 0 is `read`.
+    pub fn read_at_least(&mut self, n: u64) -> (ReadReply, Wake)
+        requires bound { n ≤ 2 ^ 62 }
+        requires attended { IsNone self.old.gone }
+        requires no_lend { IsNone self.old.lent }
+        ensures { ControlAnswers self.old (Read n) (Gave result.0 result.1) self.new }
     {
         let before = self.marks;
-        let ready = before.reads_now();
-        let len = before.committed - before.consumed;
-        let after = Marks {
+        let ready = before.reads_now(n);
+        let held = before.committed - before.consumed;
+        let waiting = Marks {
             read_canceled: false,
-            lent: lent_where(ready, len),
-            reader_waits: !ready,
+            lent: lent_where(ready, held),
+            awaited: awaited_where(ready, n),
             ..before
+        };
+        let after = Marks {
+            paused: waiting.paused_still(),
+            ..waiting
         };
         self.marks = after;
         let reply = read_reply(
             ready,
             before.read_canceled,
             before.ended,
-            len,
+            held,
             before.examined,
         );
         (reply, after.woken_since(&before))
@@ -127,13 +147,16 @@ impl Control {
     {
         let before = self.marks;
         let examined = before.examined.max(before.consumed + e);
-        let after = Marks {
+        let moved = Marks {
             consumed: before.consumed + c,
             examined,
-            paused: before.pause_lasts(examined),
             lent: None,
-            reader_waits: false,
+            awaited: None,
             ..before
+        };
+        let after = Marks {
+            paused: moved.paused_still(),
+            ..moved
         };
         self.marks = after;
         after.woken_since(&before)
@@ -164,7 +187,7 @@ impl Control {
             gone: Some(code),
             paused: false,
             lent: None,
-            reader_waits: false,
+            awaited: None,
             ..before
         };
         self.marks = after;

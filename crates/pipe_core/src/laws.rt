@@ -1,13 +1,15 @@
 //! Laws of the definitions. These functions do nothing: what they ensure is the law.
 
-ghost use Rattle.std.specs.Prelude.{◌≡◌, ◌<◌, ◌≤◌, ◌↔◌, ◌⊎◌, ℕ, List, [], ◌∷◌, ◌++◌, reverse, map, length, Bool, false, IsTrue, IsSome};
+ghost use Rattle.std.specs.Prelude.{◌≡◌, ◌<◌, ◌≤◌, ◌⊎◌, ℕ, List, [], ◌∷◌, ◌++◌, reverse, map, length, Some, false, IsTrue, IsSome};
 ghost use Rattle.pipe_core.specs.History.{Run, Call, bytes_of, run_in, AreRunsOf};
 ghost use Rattle.pipe_core.specs.Progress.{held, total};
 ghost use Rattle.pipe_core.specs.Lends.{lent_runs};
 ghost use Rattle.pipe_core.specs.Progress.{examined, unexamined};
 ghost use Rattle.pipe_core.specs.Examined.{IsFarthest};
 ghost use Rattle.pipe_core.specs.Pauses.{IsPaused, is_paused};
-ghost use Rattle.pipe_core.specs.Reads.{reply_to_read};
+ghost use Rattle.pipe_core.specs.PlainPauses.{IsPlain};
+ghost use Rattle.pipe_core.specs.PlainPauses as plain;
+ghost use Rattle.pipe_core.specs.Reads.{reply_to_read, awaited};
 ghost use Rattle.pipe_core.specs.Flushes.{reply_to_commit};
 ghost use Rattle.pipe_core.specs.Legal.{IsLegal};
 ghost use Rattle.pipe_core.specs.History.{Commit, EndWriter, Read, Advance, EndReader, CancelRead, CancelFlush, reader_end, writer_end};
@@ -22,10 +24,12 @@ use crate::control::Control;
 use crate::plain_pipe::PlainPipe;
 use crate::reply::{FlushReply, ReadReply};
 
-/// A read and a flush never wait at once.
+/// A read and a flush never wait at once: no read for any number of bytes does so, and none that waits already.
 pub fn never_both()
-    ensures { (pause resume : ℕ) (h : List Call) (examined held : ℕ) → (pause ≡ 0) ⊎ (1 ≤ resume) × (resume ≤ pause) → IsLegal h →
-        reply_to_read h ≡ ReadReply.Pending examined → reply_to_commit pause resume h [] ≡ FlushReply.Pending held → ⊥ }
+    ensures any { (pause resume : ℕ) (h : List Call) (examined held unexamined : ℕ) → (pause ≡ 0) ⊎ (1 ≤ resume) × (resume ≤ pause) → IsLegal h →
+        reply_to_read 0 h ≡ ReadReply.Pending examined held → reply_to_commit pause resume h [] ≡ FlushReply.Pending unexamined → ⊥ }
+    ensures waiting { (pause resume : ℕ) (h : List Call) (n examined held unexamined : ℕ) → (pause ≡ 0) ⊎ (1 ≤ resume) × (resume ≤ pause) → IsLegal h →
+        awaited h ≡ Some n → reply_to_read n h ≡ ReadReply.Pending examined held → reply_to_commit pause resume h [] ≡ FlushReply.Pending unexamined → ⊥ }
 {}
 
 /// A flush that waits tells how many bytes nobody has examined, and there are at least as many as end the wait.
@@ -38,6 +42,11 @@ pub fn pending_flush_is_due()
 pub fn pauses_in_words()
     ensures test { (pause resume : ℕ) (h : List Call) → IsTrue (is_paused pause resume h) → IsPaused pause resume h }
     ensures fact { (pause resume : ℕ) (h : List Call) → IsPaused pause resume h → IsTrue (is_paused pause resume h) }
+{}
+
+/// Where each read is for any number of bytes, only a commit from below the threshold begins a pause, and no read ends one.
+pub fn plain_pauses()
+    ensures { (pause resume : ℕ) (h : List Call) → resume ≤ pause → IsPlain h → is_paused pause resume h ≡ plain.is_paused pause resume h }
 {}
 
 /// How far the reader has examined is how far its farthest advance has looked, and nothing else is.
@@ -56,9 +65,11 @@ pub fn latest_first()
     ensures { (calls : List Call) (call : Call) → reverse (calls ++ call ∷ []) ≡ call ∷ reverse calls }
 {}
 
-/// A read that waits has examined all that is committed.
+/// A read that waits has examined all that is committed, or fewer bytes are held than it asks for.
 pub fn waiting_read_has_seen_all()
-    ensures { (h : List Call) (examined : ℕ) → IsLegal h → reply_to_read h ≡ ReadReply.Pending examined → examined ≡ length (total h) }
+    ensures seen { (h : List Call) (n examined count : ℕ) → IsLegal h → reply_to_read n h ≡ ReadReply.Pending examined count →
+        (examined ≡ length (total h)) ⊎ (count < n) }
+    ensures held { (h : List Call) (n examined count : ℕ) → reply_to_read n h ≡ ReadReply.Pending examined count → count ≡ length (held h) }
 {}
 
 /// Whatever calls are made of a new control, in whatever order: each is answered as it is on the history so far, and the
@@ -81,7 +92,7 @@ pub fn completed_end_is_never_woken()
 pub fn no_end_wakes_itself()
     ensures commit { (pause resume : ℕ) (runs : List Run) (h : List Call) → wakes_writer pause resume (Commit runs) h ≡ false }
     ensures end_writer { (pause resume code : ℕ) (h : List Call) → wakes_writer pause resume (EndWriter code) h ≡ false }
-    ensures read { (h : List Call) → wakes_reader Read h ≡ false }
+    ensures read { (n : ℕ) (h : List Call) → wakes_reader (Read n) h ≡ false }
     ensures advance { (c e : ℕ) (h : List Call) → wakes_reader (Advance c e) h ≡ false }
     ensures end_reader { (code : ℕ) (h : List Call) → wakes_reader (EndReader code) h ≡ false }
 {}

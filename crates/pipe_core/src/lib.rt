@@ -11,15 +11,15 @@ mod plain_pipe;
 mod reply;
 
 pub use cases::{
-    canceled_flush_leaves_pause, canceled_read_keeps_bytes, commit_during_a_lend,
-    examined_never_falls, lend_cases, most_bytes, pause_ends_below_resume, reader_gone_ends_pause,
-    whole_run,
+    canceled_flush_leaves_pause, canceled_read_at_least_lets_pause, canceled_read_keeps_bytes,
+    commit_during_a_lend, examined_never_falls, lend_cases, most_bytes, pause_ends_below_resume,
+    read_at_least_ends_pause, read_at_least_waits, reader_gone_ends_pause, whole_run,
 };
 pub use control::Control;
 pub use laws::{
     answers_to_all_calls, bytes_of_one_segment, cancellation_wakes_its_own_end,
     completed_end_is_never_woken, control_has_a_history, examined_in_words, latest_first,
-    never_both, no_end_wakes_itself, pauses_in_words, pending_flush_is_due,
+    never_both, no_end_wakes_itself, pauses_in_words, pending_flush_is_due, plain_pauses,
     plain_pipe_has_a_history, runs_are_the_lend, waiting_read_has_seen_all, whole_loan_is_written,
 };
 pub use plain_pipe::PlainPipe;

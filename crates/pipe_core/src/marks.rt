@@ -1,7 +1,7 @@
 //! Marks and flags of fixed width, and what is read off them.
 
-ghost use Rattle.std.specs.Prelude.{◌≡◌, ◌≤◌, ◌^◌, ◌-◌, Option, Some, None, if◌then◌else◌};
-ghost use Rattle.pipe_core.specs.Control.{reads_now, flush_goes, flushes_now, woken, total_with, pauses_at, pause_lasts};
+ghost use Rattle.std.specs.Prelude.{◌≡◌, ◌≤◌, ◌^◌, ◌&&◌, Option, Some, None, if◌then◌else◌};
+ghost use Rattle.pipe_core.specs.Control.{AreInOrder, reads_now, lacks_now, readies, lasts_now, pauses_now, flush_goes, flushes_now, woken, total_with};
 ghost use Rattle.pipe_core.specs.declared.reply.FlushReply.TheVariants as flush;
 ghost use Rattle.pipe_core.specs.declared.reply.ReadReply.TheVariants as read;
 
@@ -35,41 +35,86 @@ pub struct Marks {
     pub paused: bool,
     /// How many bytes are lent, while a lend stands.
     pub lent: Option<u64>,
-    /// The reader's last call is a read that was answered Pending.
-    pub reader_waits: bool,
+    /// For how many bytes the reader waits, where its last call is a read that was answered Pending.
+    pub awaited: Option<u64>,
     /// The writer's last call is a commit that was answered Pending.
     pub writer_waits: bool,
 }
 
 impl Marks {
-    // Whether a read would be ready.
-    pub fn reads_now(&self) -> bool
-        ensures { result ≡ reads_now self.now }
+    // Whether a read for at least `n` bytes would be ready.
+    pub fn reads_now(&self, n: u64) -> bool
+        requires { AreInOrder self.now }
+        ensures { result ≡ reads_now n self.now }
     {
-        self.read_canceled || self.ended.is_some() || self.examined < self.committed
+        let enough = self.examined < self.committed && n <= self.committed - self.consumed;
+        self.read_canceled || self.ended.is_some() || enough
+    }
+
+    // Whether the reader waits for at least one byte, or more, and would wait again.
+    pub fn starves(&self) -> bool
+        requires { AreInOrder self.now }
+        ensures { result ≡ lacks_now self.now.awaited self.now }
+    {
+        match self.awaited {
+            Some(n) => 0 < n && !self.reads_now(n),
+            None => false,
+        }
+    }
+
+    // Whether a pause that stood would go on.
+    pub fn lasts_now(&self) -> bool
+        requires { AreInOrder self.now }
+        ensures { result ≡ lasts_now self.now }
+    {
+        self.resume <= self.committed - self.examined && !self.starves()
+    }
+
+    // Whether the pause that stands goes on.
+    pub fn paused_still(&self) -> bool
+        requires { AreInOrder self.now }
+        ensures { result ≡ (self.now.paused && lasts_now self.now) }
+    {
+        self.paused && self.lasts_now()
+    }
+
+    // Whether a pause stands after a commit that leaves these marks.
+    pub fn pauses_now(&self) -> bool
+        requires { AreInOrder self.now }
+        ensures { result ≡ pauses_now self.now }
+    {
+        let due = self.pause <= self.committed - self.examined || self.paused;
+        0 < self.pause && self.gone.is_none() && (self.lasts_now() && due)
     }
 
     // Whether a flush of nothing would be ready.
     pub fn flushes_now(&self) -> bool
+        requires { AreInOrder self.now }
         ensures { result ≡ flushes_now self.now }
     {
-        flush_goes(self.flush_canceled, self.gone, self.paused)
+        flush_goes(self.flush_canceled, self.gone, self.pauses_now())
     }
 
-    // Whether the pause that stands goes on where the reader has examined so far.
-    pub fn pause_lasts(&self, examined: u64) -> bool
-        requires { examined ≤ self.now.committed }
-        ensures { result ≡ pause_lasts self.now examined }
+    // Whether the read that waits by the marks before was not ready then, and is so now.
+    pub fn readies_since(&self, before: &Marks) -> bool
+        requires now { AreInOrder self.now }
+        requires before { AreInOrder before.now }
+        ensures { result ≡ readies before.now.awaited before.now self.now }
     {
-        self.paused && self.resume <= self.committed - examined
+        match before.awaited {
+            Some(n) => !before.reads_now(n) && self.reads_now(n),
+            None => false,
+        }
     }
 
     // Which waiting end was not ready, and is so by these marks.
     pub fn woken_since(&self, before: &Marks) -> Wake
+        requires now { AreInOrder self.now }
+        requires before { AreInOrder before.now }
         ensures { result ≡ woken before.now self.now }
     {
         Wake {
-            reader: before.reader_waits && !before.reads_now() && self.reads_now(),
+            reader: self.readies_since(before),
             writer: before.writer_waits && !before.flushes_now() && self.flushes_now(),
         }
     }
@@ -86,17 +131,6 @@ impl Marks {
         } else {
             Some(self.committed + n)
         }
-    }
-
-    // Whether a pause stands after a commit that leaves this total.
-    pub fn pauses_at(&self, total: u64) -> bool
-        requires before { self.now.examined ≤ self.now.committed }
-        requires after { self.now.examined ≤ total }
-        ensures { result ≡ pauses_at self.now total }
-    {
-        let unexamined = total - self.examined;
-        let begins = self.committed - self.examined < self.pause && self.pause <= unexamined;
-        self.gone.is_none() && self.resume <= unexamined && (begins || self.paused)
     }
 }
 
@@ -123,20 +157,27 @@ pub fn read_reply(
     ready: bool,
     canceled: bool,
     ended: Option<u32>,
-    len: u64,
+    held: u64,
     examined: u64,
 ) -> ReadReply
-    ensures { result ≡ if ready then read.Ready canceled ended len else read.Pending examined }
+    ensures { result ≡ if ready then read.Ready canceled ended held else read.Pending examined held }
 {
     if ready {
         ReadReply::Ready {
             canceled,
             ended,
-            len,
+            len: held,
         }
     } else {
-        ReadReply::Pending { examined }
+        ReadReply::Pending { examined, held }
     }
+}
+
+// For how many bytes a read waits, where it is not ready.
+pub fn awaited_where(ready: bool, n: u64) -> Option<u64>
+    ensures { result ≡ if ready then None else Some n }
+{
+    if ready { None } else { Some(n) }
 }
 
 // The length of a lend, where a read is ready.

@@ -148,10 +148,22 @@ impl PlainPipe {
     pub fn read(&mut self) -> (ReadReply, Wake)
         requires attended { IsNone self.old.control.gone }
         requires no_lend { IsNone self.old.control.lent }
-        ensures answers { PipeAnswers self.old (Read ∷ []) (Gave result.0 result.1) self.new }
+        ensures answers { PipeAnswers self.old (Read 0 ∷ []) (Gave result.0 result.1) self.new }
         ensures bytes { self.new.bytes ≡ self.old.bytes }
     {
-        self.control.read()
+        self.read_at_least(0)
+    }
+
+    /// The same for at least `n` bytes, as `Control::read_at_least` answers. A read for more than the pipe has room for is
+    /// Ready only once the writer has completed, or by a cancellation.
+    pub fn read_at_least(&mut self, n: u64) -> (ReadReply, Wake)
+        requires bound { n ≤ 2 ^ 62 }
+        requires attended { IsNone self.old.control.gone }
+        requires no_lend { IsNone self.old.control.lent }
+        ensures answers { PipeAnswers self.old (Read n ∷ []) (Gave result.0 result.1) self.new }
+        ensures bytes { self.new.bytes ≡ self.old.bytes }
+    {
+        self.control.read_at_least(n)
     }
 
     /// The bytes that the last read lent, in place: `ReadResult.Buffer`. What was committed since is not among them. Where no

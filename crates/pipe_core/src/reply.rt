@@ -29,17 +29,20 @@ pub enum ReadReply {
         /// How many bytes are lent: all that is committed and not consumed.
         len: u64,
     },
-    /// All that is committed was examined, and the reader is to read again once it is woken.
+    /// All that is committed was examined, or fewer bytes are held than were asked for. The reader is to read again once it is
+    /// woken.
     Pending {
-        /// How far the reader has examined, in bytes from the first one of the pipe: all that was committed.
+        /// How far the reader has examined, in bytes from the first one of the pipe.
         examined: u64,
+        /// How many bytes are held: all that is committed and not consumed.
+        held: u64,
     },
 }
 
 /// Which waiting end a call has made ready, so that it is to ask again.
 #[derive(Clone, Copy, Debug, PartialEq, Eq)]
 pub struct Wake {
-    /// The reader's last read was answered Pending, and now a read would be ready.
+    /// The reader's last read was answered Pending, and now one for as many bytes would be ready.
     pub reader: bool,
     /// The writer's last flush was answered Pending, and now a flush of nothing would be ready.
     pub writer: bool,

@@ -2,9 +2,15 @@
 #![tactic(auto)]
 
 #[cfg(test)]
+mod at_least;
+#[cfg(test)]
+mod histories;
+#[cfg(test)]
 mod local;
 #[cfg(test)]
 mod plain;
+#[cfg(test)]
+mod player;
 #[cfg(test)]
 mod replies;
 #[cfg(test)]

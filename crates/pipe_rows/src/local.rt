@@ -9,7 +9,7 @@ use pipe_shared::{Closed, Full, LocalPipe, LocalRoomFault, MakeError};
 use std::process::Abort;
 
 // Writes these bytes to the front of the free part, and tells so.
-fn draft_local(pipe: &mut LocalPipe, bytes: &[u8]) -> bool
+pub(crate) fn draft_local(pipe: &mut LocalPipe, bytes: &[u8]) -> bool
     ensures { pipe.new.pipe.control ≡ pipe.old.pipe.control }
 {
     let spare = pipe.spare_mut();
@@ -22,7 +22,7 @@ fn draft_local(pipe: &mut LocalPipe, bytes: &[u8]) -> bool
 }
 
 // Commits the draft. Whether an end has completed and what is lent stay, also where there would be too many bytes.
-fn flush(pipe: &mut LocalPipe) -> Result<(FlushReply, Wake), TooMuch>
+pub(crate) fn flush(pipe: &mut LocalPipe) -> Result<(FlushReply, Wake), TooMuch>
     requires { IsNone pipe.old.pipe.control.ended }
     ensures ended { pipe.new.pipe.control.ended ≡ pipe.old.pipe.control.ended }
     ensures gone { pipe.new.pipe.control.gone ≡ pipe.old.pipe.control.gone }
@@ -76,7 +76,14 @@ fn begin_run(rt: &impl Abort, pipe: &mut LocalPipe)
 {
     assert!(rt; pipe.room(0) == Ok(64));
     assert!(rt; draft_local(pipe, b"abc"));
-    let (ReadReply::Pending { examined: 0 }, NOBODY) = pipe.read() else {
+    let (
+        ReadReply::Pending {
+            examined: 0,
+            held: 0,
+        },
+        NOBODY,
+    ) = pipe.read()
+    else {
         panic!(rt; "something is lent");
     };
     assert!(rt; flush(pipe) == Ok((FLUSHED, THE_READER)));
@@ -113,7 +120,14 @@ fn pause_run(rt: &impl Abort, pipe: &mut LocalPipe)
     ensures gone { pipe.new.pipe.control.gone ≡ pipe.old.pipe.control.gone }
     ensures lent { pipe.new.pipe.control.lent ≡ None }
 {
-    let (ReadReply::Pending { examined: 5 }, NOBODY) = pipe.read() else {
+    let (
+        ReadReply::Pending {
+            examined: 5,
+            held: 0,
+        },
+        NOBODY,
+    ) = pipe.read()
+    else {
         panic!(rt; "something is lent");
     };
     assert!(rt; draft_local(pipe, b"12345678"));

@@ -6,7 +6,7 @@ use crate::replies::{FLUSHED, NOBODY, THE_READER, THE_WRITER, reply};
 use pipe_core::{Control, FlushReply, PlainPipe, ReadReply, TooMuch, Wake};
 use std::alloc::AllocError;
 
-type Flushed = Result<(FlushReply, Wake), TooMuch>;
+pub(crate) type Flushed = Result<(FlushReply, Wake), TooMuch>;
 
 fn waits(unexamined: u64) -> Flushed {
     Ok((FlushReply::Pending { unexamined }, NOBODY))
@@ -17,7 +17,7 @@ fn lent(len: u64) -> ReadReply {
 }
 
 // Commits so many bytes. Whether an end has completed and what is lent stay, also where there would be too many.
-fn commit(control: &mut Control, n: u64) -> Flushed
+pub(crate) fn commit(control: &mut Control, n: u64) -> Flushed
     requires { IsNone control.old.ended }
     ensures ended { control.new.ended ≡ control.old.ended }
     ensures gone { control.new.gone ≡ control.old.gone }
@@ -58,7 +58,10 @@ fn a_control_pauses_and_wakes(rt: HostRuntime) {
 
 #[test]
 fn a_control_cancels_and_completes(rt: HostRuntime) {
-    let waiting = ReadReply::Pending { examined: 5 };
+    let waiting = ReadReply::Pending {
+        examined: 5,
+        held: 5,
+    };
     let ready = |canceled, ended| ReadReply::Ready {
         canceled,
         ended,
@@ -115,7 +118,7 @@ fn an_examined_mark_never_falls(rt: HostRuntime) {
 }
 
 // Writes as much of `bytes` as there is room for.
-fn write(pipe: &mut PlainPipe, bytes: &[u8])
+pub(crate) fn write(pipe: &mut PlainPipe, bytes: &[u8])
     ensures control { pipe.new.control ≡ pipe.old.control }
 {
     let spare = pipe.spare_mut();
@@ -125,7 +128,7 @@ fn write(pipe: &mut PlainPipe, bytes: &[u8])
 }
 
 // Commits the draft, as `commit` does.
-fn flush(pipe: &mut PlainPipe) -> Flushed
+pub(crate) fn flush(pipe: &mut PlainPipe) -> Flushed
     requires { IsNone pipe.old.control.ended }
     ensures ended { pipe.new.control.ended ≡ pipe.old.control.ended }
     ensures gone { pipe.new.control.gone ≡ pipe.old.control.gone }
@@ -214,7 +217,11 @@ fn a_pipe_lends_what_was_committed_before_the_read(rt: HostRuntime) -> Result<()
     assert_eq!(rt; pipe.advance(0, 3), NOBODY);
     write(&mut pipe, b"f");
     assert_eq!(rt; use_up_bytes(&mut pipe, b"abcde", 2, 5), Some(NOBODY));
-    assert_eq!(rt; pipe.read(), (ReadReply::Pending { examined: 5 }, NOBODY));
+    let waiting = ReadReply::Pending {
+        examined: 5,
+        held: 3,
+    };
+    assert_eq!(rt; pipe.read(), (waiting, NOBODY));
     assert_eq!(rt; complete(&mut pipe, 7), Ok(THE_READER));
     assert_eq!(rt; use_up_bytes(&mut pipe, b"cdef", 4, 4), Some(NOBODY));
     assert_eq!(rt; pipe.end_reader(0), NOBODY);

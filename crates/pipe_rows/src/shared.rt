@@ -22,18 +22,18 @@ pub(crate) const SMALL: Options = Options {
     resume: 4,
 };
 
-type Flushed = Result<(FlushReply, Wake), FlushFault>;
+pub(crate) type Flushed = Result<(FlushReply, Wake), FlushFault>;
 
-type Gave = Result<(ReadReply, Wake), TryFault>;
+pub(crate) type Gave = Result<(ReadReply, Wake), TryFault>;
 
 type Woke = Result<Wake, TryFault>;
 
 // A pipe with these options, where they are small.
-fn make(rt: &HostRuntime, options: Options) -> Option<Made>
+pub(crate) fn make(rt: &HostRuntime, options: Options) -> Option<Made>
     ensures { IfSome result (λ made.
         IsOf made.0 made.1.seat × IsOf made.0 made.2.seat × IsOf made.0 made.3) }
 {
-    if options.segments > 2 || options.segment > 64 {
+    if options.segments > 32 || options.segment > 65536 {
         return None;
     }
     match Pipe::make(rt.alloc(), options) {
@@ -57,7 +57,7 @@ fn complete_reader(pipe: &Pipe, r: ReaderEnd) -> Option<(ReaderDone, Wake)>
 }
 
 // Takes room for these bytes, writes them, tells so, and flushes.
-fn send(pipe: &Pipe, w: &mut WriterEnd, bytes: &[u8]) -> Option<Flushed>
+pub(crate) fn send(pipe: &Pipe, w: &mut WriterEnd, bytes: &[u8]) -> Option<Flushed>
     requires { IsOf pipe.now w.old.seat }
     ensures { IsOf pipe.now w.new.seat }
 {
@@ -68,7 +68,7 @@ fn send(pipe: &Pipe, w: &mut WriterEnd, bytes: &[u8]) -> Option<Flushed>
 }
 
 // Writes these bytes to the front of the free part, and tells so.
-fn draft(w: &mut WriterEnd, bytes: &[u8]) -> bool
+pub(crate) fn draft(w: &mut WriterEnd, bytes: &[u8]) -> bool
     ensures { w.new.seat ≡ w.old.seat }
 {
     let spare = w.spare_mut();
@@ -119,8 +119,9 @@ fn ready(ended: Option<u32>, len: u64) -> Option<Gave> {
     Some(Ok((reply(ended, len), NOBODY)))
 }
 
+// A read that waits, where nothing is held.
 fn waits(examined: u64) -> Option<Gave> {
-    Some(Ok((ReadReply::Pending { examined }, NOBODY)))
+    Some(Ok((ReadReply::Pending { examined, held: 0 }, NOBODY)))
 }
 
 #[test]

@@ -102,12 +102,12 @@ pub reader_refused : (fault : TryFault) (old new : Seat) (l : Lent) → IsReader
 reader_refused (try.Busy word) old new l r refuses = reader_finds word old new l r refuses
 reader_refused (try.Worn entries) old new l r refuses = reader_wins old new l r refuses.wins
 
-pub reader_reads : (options : Options) (answer : Answer) (old new : Seat) (l m : Lent) → IsReader old l → Makes options old (Read ∷ []) answer new → lend (calls_of new.seen) ≡ m.bytes → m.size ≡ l.size → IsReader new m
-reader_reads options answer old new l m r made lent size =
+pub reader_reads : (options : Options) (n : ℕ) (answer : Answer) (old new : Seat) (l m : Lent) → IsReader old l → Makes options old (Read n ∷ []) answer new → lend (calls_of new.seen) ≡ m.bytes → m.size ≡ l.size → IsReader new m
+reader_reads options n answer old new l m r made lent size =
     let found = reader_wins old made.found l r made.wins in
-    let calls = calls_made (Read ∷ []) made.found new made.after in
+    let calls = calls_made (Read n ∷ []) made.found new made.after in
     record {
-      end = end_makes 1 options (Read ∷ []) answer old new r.end made;
+      end = end_makes 1 options (Read n ∷ []) answer old new r.end made;
       attended = ap reader_end calls ∙ found.attended;
       size = λ o named. size ∙ found.size o (sym (ap (λ (s : Seat). s.name) made.after) ∙ named);
       lent = lent;
@@ -125,10 +125,10 @@ reader_advances options c e answer old new l m r made ends =
     }
 
 -- a reader after a read, however that was answered
-pub reader_after_read : (options : Options) (old new : Seat) (l m : Lent) → IsReader old l → (r : Result (ReadReply × Wake) TryFault) → IfOk r (λ answer. Makes options old (Read ∷ []) (Gave answer.0 answer.1) new)
+pub reader_after_read : (options : Options) (n : ℕ) (old new : Seat) (l m : Lent) → IsReader old l → (r : Result (ReadReply × Wake) TryFault) → IfOk r (λ answer. Makes options old (Read n ∷ []) (Gave answer.0 answer.1) new)
     → IfOk r (λ _. lend (calls_of new.seen) ≡ m.bytes) → IfErr r (λ fault. Refuses fault old new) → IfErr r (λ _. m ≡ l) → m.size ≡ l.size → IsReader new m
-reader_after_read options old new l m r (Ok answer) made lent refused unchanged size = reader_reads options (Gave answer.0 answer.1) old new l m r made lent size
-reader_after_read options old new l m r (Err fault) made lent refused unchanged size = subst (IsReader new) (sym unchanged) (reader_refused fault old new l r refused)
+reader_after_read options n old new l m r (Ok answer) made lent refused unchanged size = reader_reads options n (Gave answer.0 answer.1) old new l m r made lent size
+reader_after_read options n old new l m r (Err fault) made lent refused unchanged size = subst (IsReader new) (sym unchanged) (reader_refused fault old new l r refused)
 
 -- a writer whose free part was granted anew
 pub writer_granted : (seat : Seat) (d e : Drafted) (n : ℕ) → IsWriter seat d → e.draft ≡ d.draft → length e.free ≡ n → e.size ≡ d.size → length (kept (calls_of seat.seen)) + (length (bytes_of d.draft) + n) ≤ d.size → IsWriter seat e

@@ -70,5 +70,5 @@ refuses_flush size fault old new (Err e) given refuses = subst (λ (f : FlushFau
     same (Worn entries) r = r
 
 -- what the read lends is the lend of the history with it
-pub lend_after : (taken new : Seat) (bytes : Option (List ℕ)) → new ≡ after_put (Read ∷ []) taken → bytes ≡ lend (Read ∷ calls_of taken.seen) → lend (calls_of new.seen) ≡ bytes
-lend_after taken new bytes after is = ap (λ (x : Seat). lend (calls_of x.seen)) after ∙ ap lend (calls_with taken.seen taken.number (Read ∷ [])) ∙ sym is
+pub lend_after : (n : ℕ) (taken new : Seat) (bytes : Option (List ℕ)) → new ≡ after_put (Read n ∷ []) taken → bytes ≡ lend (Read n ∷ calls_of taken.seen) → lend (calls_of new.seen) ≡ bytes
+lend_after n taken new bytes after is = ap (λ (x : Seat). lend (calls_of x.seen)) after ∙ ap lend (calls_with taken.seen taken.number (Read n ∷ [])) ∙ sym is

@@ -85,9 +85,9 @@ pub local_flushed : (options : Options) (p q : Pipe) (granted : ℕ) (r : Result
 local_flushed options p q granted (Ok answer) l a none same = local_flush options p q granted (Flushed answer.0 answer.1) l a none
 local_flushed options p q granted (Err refused) l a none same = subst (λ (x : Pipe). IsLocal options x granted) (sym same) l
 
-pub local_read : (options : Options) (p q : Pipe) (granted : ℕ) (answer : Answer) → IsLocal options p granted → PipeAnswers p (Read ∷ []) answer q → q.bytes ≡ p.bytes → IsLocal options q granted
-local_read options p q granted answer l a same =
-    no_less options p q granted (Read ∷ []) answer l a (omega (arith, ap (λ (b : Bytes). length b.held) same, ap (λ (b : Bytes). length b.draft) same))
+pub local_read : (options : Options) (p q : Pipe) (granted n : ℕ) (answer : Answer) → IsLocal options p granted → PipeAnswers p (Read n ∷ []) answer q → q.bytes ≡ p.bytes → IsLocal options q granted
+local_read options p q granted n answer l a same =
+    no_less options p q granted (Read n ∷ []) answer l a (omega (arith, ap (λ (b : Bytes). length b.held) same, ap (λ (b : Bytes). length b.draft) same))
 
 pub local_advance : (options : Options) (p q : Pipe) (granted c e : ℕ) (answer : Answer) → IsLocal options p granted → PipeAnswers p (Advance c e ∷ []) answer q → q.bytes.draft ≡ p.bytes.draft → IsLocal options q granted
 local_advance options p q granted c e answer l a same =

@@ -67,7 +67,7 @@ writer_end_under : (more h : List Call) → All (IsNotBy 0) more → writer_end 
 writer_end_under [] h apart = refl
 writer_end_under (Commit runs ∷ more) h apart = absurd (All-head (IsNotBy 0) (Commit runs) more apart refl)
 writer_end_under (EndWriter code ∷ more) h apart = absurd (All-head (IsNotBy 0) (EndWriter code) more apart refl)
-writer_end_under (Read ∷ more) h apart = writer_end_under more h (All-tail (IsNotBy 0) Read more apart)
+writer_end_under (Read n ∷ more) h apart = writer_end_under more h (All-tail (IsNotBy 0) (Read n) more apart)
 writer_end_under (Advance c e ∷ more) h apart = writer_end_under more h (All-tail (IsNotBy 0) (Advance c e) more apart)
 writer_end_under (EndReader code ∷ more) h apart = writer_end_under more h (All-tail (IsNotBy 0) (EndReader code) more apart)
 writer_end_under (CancelRead ∷ more) h apart = writer_end_under more h (All-tail (IsNotBy 0) CancelRead more apart)
@@ -77,7 +77,7 @@ reader_end_under : (more h : List Call) → All (IsNotBy 1) more → reader_end 
 reader_end_under [] h apart = refl
 reader_end_under (Commit runs ∷ more) h apart = reader_end_under more h (All-tail (IsNotBy 1) (Commit runs) more apart)
 reader_end_under (EndWriter code ∷ more) h apart = reader_end_under more h (All-tail (IsNotBy 1) (EndWriter code) more apart)
-reader_end_under (Read ∷ more) h apart = absurd (All-head (IsNotBy 1) Read more apart refl)
+reader_end_under (Read n ∷ more) h apart = absurd (All-head (IsNotBy 1) (Read n) more apart refl)
 reader_end_under (Advance c e ∷ more) h apart = absurd (All-head (IsNotBy 1) (Advance c e) more apart refl)
 reader_end_under (EndReader code ∷ more) h apart = absurd (All-head (IsNotBy 1) (EndReader code) more apart refl)
 reader_end_under (CancelRead ∷ more) h apart = reader_end_under more h (All-tail (IsNotBy 1) CancelRead more apart)
@@ -96,7 +96,7 @@ kept_under : (more h : List Call) → All (IsNotBy 0) more → length (kept (mor
 kept_under [] h apart = omega arith
 kept_under (Commit runs ∷ more) h apart = absurd (All-head (IsNotBy 0) (Commit runs) more apart refl)
 kept_under (EndWriter code ∷ more) h apart = absurd (All-head (IsNotBy 0) (EndWriter code) more apart refl)
-kept_under (Read ∷ more) h apart = kept_under more h (All-tail (IsNotBy 0) Read more apart)
+kept_under (Read n ∷ more) h apart = kept_under more h (All-tail (IsNotBy 0) (Read n) more apart)
 kept_under (Advance c e ∷ more) h apart =
     let rest = kept_under more h (All-tail (IsNotBy 0) (Advance c e) more apart) in
     let front : length (drop c (kept (more ++ h))) ≡ length (kept (Advance c e ∷ more ++ h)) = ap length (kept_advance c e (more ++ h)) in

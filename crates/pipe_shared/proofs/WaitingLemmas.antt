@@ -61,57 +61,57 @@ one_more : (own before new : List Call) (call : Call) (n : ℕ) → before ≡ o
 one_more own before new call n was is = is ∙ ap (λ l. l ++ call ∷ []) was ∙ append_assoc own (replicate n call) (call ∷ []) ∙ ap (λ l. own ++ l) (replicate_more n call)
 
 -- a read lends as much as its reply tells
-pub lend_by_reply : (h : List Call) → option_map length (lend (Read ∷ h)) ≡ len_of (reply_to_read h)
-lend_by_reply h = each (read_is_ready h)
+pub lend_by_reply : (n : ℕ) (h : List Call) → option_map length (lend (Read n ∷ h)) ≡ len_of (reply_to_read n h)
+lend_by_reply n h = each (read_is_ready n h)
   where
-    each : (b : Bool) → option_map length (cond b (Some (held h)) None) ≡ len_of (cond b (read.Ready (canceled_read h) (writer_end h) (length (held h))) (read.Pending (examined h)))
+    each : (b : Bool) → option_map length (cond b (Some (held h)) None) ≡ len_of (cond b (read.Ready (canceled_read h) (writer_end h) (length (held h))) (read.Pending (examined h) (length (held h))))
     each true = refl
     each false = refl
 
 same_reply : (a b : ReadReply) (v w : Wake) → Gave a v ≡ Gave b w → a ≡ b
 same_reply a b v w e = cc
 
-module _ (options : Options) (old new : Seat) (reply : ReadReply) (wake : Wake) (made : Makes options old (Read ∷ []) (Gave reply wake) new) where
-  pub read_told : reply ≡ reply_to_read (calls_of made.found.seen)
-  read_told = same_reply reply (reply_to_read (calls_of made.found.seen)) wake _ made.told
+module _ (options : Options) (n : ℕ) (old new : Seat) (reply : ReadReply) (wake : Wake) (made : Makes options old (Read n ∷ []) (Gave reply wake) new) where
+  pub read_told : reply ≡ reply_to_read n (calls_of made.found.seen)
+  read_told = same_reply reply (reply_to_read n (calls_of made.found.seen)) wake _ made.told
 
-  pub read_seen : calls_of new.seen ≡ Read ∷ calls_of made.found.seen
-  read_seen = calls_made (Read ∷ []) made.found new made.after
+  pub read_seen : calls_of new.seen ≡ Read n ∷ calls_of made.found.seen
+  read_seen = calls_made (Read n ∷ []) made.found new made.after
 
   pub read_lends : (lent : Option (List ℕ)) → lent ≡ lend (calls_of new.seen) → option_map length lent ≡ len_of reply
-  read_lends lent is = ap (option_map length) (is ∙ ap lend read_seen) ∙ lend_by_reply (calls_of made.found.seen) ∙ ap len_of (sym read_told)
+  read_lends lent is = ap (option_map length) (is ∙ ap lend read_seen) ∙ lend_by_reply n (calls_of made.found.seen) ∙ ap len_of (sym read_told)
 
 -- where nothing is lent, nothing stands, and else as many bytes as the reply tells
 pub nothing_lent : (lent : Option (List ℕ)) (reply : ReadReply) → option_map length lent ≡ len_of reply → lends_nothing reply ≡ true → IsNone lent
 nothing_lent None reply len waits = refl
 nothing_lent (Some bytes) (read.Ready canceled ended n) len waits = absurd cc
-nothing_lent (Some bytes) (read.Pending n) len waits = absurd cc
+nothing_lent (Some bytes) (read.Pending examined count) len waits = absurd cc
 
 -- attempts at a read make reads alone
-pub reads_tried : (options : Options) (old new : Reader) → Tried (TriesRead options) waits_to_read old new → (n : ℕ) × (new.seat.own ≡ old.seat.own ++ replicate n Read) × IsBehind old.seat new.seat
-reads_tried options old new untried = (0, sym (append-nil old.seat.own), ([], refl))
-reads_tried options old new (tried before _ (Ok answer) t attempt waits) =
-    let more = reads_tried options old before t in
+pub reads_tried : (options : Options) (n : ℕ) (old new : Reader) → Tried (TriesRead options n) waits_to_read old new → (times : ℕ) × (new.seat.own ≡ old.seat.own ++ replicate times (Read n)) × IsBehind old.seat new.seat
+reads_tried options n old new untried = (0, sym (append-nil old.seat.own), ([], refl))
+reads_tried options n old new (tried before _ (Ok answer) t attempt waits) =
+    let more = reads_tried options n old before t in
     let made = attempt.0 in (
       more.0 + 1,
-      one_more old.seat.own before.seat.own new.seat.own Read more.0 more.1 (made_own options (Read ∷ []) (Gave answer.0 answer.1) before.seat new.seat made),
-      behind_trans old.seat before.seat _ more.2 (made_behind options (Read ∷ []) (Gave answer.0 answer.1) before.seat new.seat made),
+      one_more old.seat.own before.seat.own new.seat.own (Read n) more.0 more.1 (made_own options (Read n ∷ []) (Gave answer.0 answer.1) before.seat new.seat made),
+      behind_trans old.seat before.seat _ more.2 (made_behind options (Read n ∷ []) (Gave answer.0 answer.1) before.seat new.seat made),
     )
-reads_tried options old new (tried before _ (Err fault) t attempt waits) =
-    let more = reads_tried options old before t in
+reads_tried options n old new (tried before _ (Err fault) t attempt waits) =
+    let more = reads_tried options n old before t in
     (more.0, refused_own fault before.seat new.seat attempt.0 ∙ more.1, behind_trans old.seat before.seat _ more.2 (refused_behind fault before.seat new.seat attempt.0))
 
-pub reads_on : (options : Options) (old new : Reader) (reply : ReadReply) (wake : Wake) → AtLast (TriesRead options) waits_to_read old (Ok (reply, wake)) new → ReadsOn old.seat reply new.seat
-reads_on options old new reply wake a =
-    let before = reads_tried options old a.before a.tried in
+pub reads_on : (options : Options) (n : ℕ) (old new : Reader) (reply : ReadReply) (wake : Wake) → AtLast (TriesRead options n) waits_to_read old (Ok (reply, wake)) new → ReadsOn n old.seat reply new.seat
+reads_on options n old new reply wake a =
+    let before = reads_tried options n old a.before a.tried in
     let made = a.last.0 in
     record {
       found = calls_of made.found.seen;
       since = behind_trans old.seat a.before.seat _ before.2 (won_behind a.before.seat made.found made.wins);
-      seen = read_seen options a.before.seat new.seat reply wake made;
-      told = read_told options a.before.seat new.seat reply wake made;
+      seen = read_seen options n a.before.seat new.seat reply wake made;
+      told = read_told options n a.before.seat new.seat reply wake made;
       times = before.0;
-      own = made_own options (Read ∷ []) (Gave reply wake) a.before.seat new.seat made ∙ ap (λ l. l ++ Read ∷ []) before.1;
+      own = made_own options (Read n ∷ []) (Gave reply wake) a.before.seat new.seat made ∙ ap (λ l. l ++ Read n ∷ []) before.1;
     }
 
 -- attempts at a call that waits for turns alone make no entry, and leave the lend

@@ -70,14 +70,14 @@ abbrev pub waits_to_complete : Result Wake FlushFault → Bool
 waits_to_complete (Ok wake) = false
 waits_to_complete (Err fault) = is_tried_again fault
 
--- an attempt at a read
-abbrev pub TriesRead : Options → Reader → Result (ReadReply × Wake) TryFault → Reader → Type 0
-TriesRead options old (Ok answer) new = Makes options old.seat (Read ∷ []) (Gave answer.0 answer.1) new.seat × (new.lent ≡ lend (calls_of new.seat.seen))
-TriesRead options old (Err fault) new = Refuses fault old.seat new.seat × (new.lent ≡ old.lent)
+-- an attempt at a read for at least n bytes
+abbrev pub TriesRead : Options → ℕ → Reader → Result (ReadReply × Wake) TryFault → Reader → Type 0
+TriesRead options n old (Ok answer) new = Makes options old.seat (Read n ∷ []) (Gave answer.0 answer.1) new.seat × (new.lent ≡ lend (calls_of new.seat.seen))
+TriesRead options n old (Err fault) new = Refuses fault old.seat new.seat × (new.lent ≡ old.lent)
 
 abbrev pub lends_nothing : ReadReply → Bool
 lends_nothing (read.Ready canceled ended len) = false
-lends_nothing (read.Pending examined) = true
+lends_nothing (read.Pending examined held) = true
 
 -- A read waits for a turn, and then for something to lend.
 abbrev pub waits_to_read : Result (ReadReply × Wake) TryFault → Bool
@@ -102,14 +102,14 @@ waits_for_turn (Err fault) = true
 abbrev pub IsSince : Seat → List Call → Type 0
 IsSince old found = (since : List Call) × (found ≡ since ++ calls_of old.seen)
 
--- The seat read once or more often, and made no other call. The last read was answered so, behind all that was seen before it, which ends with what the seat had seen before the call.
-pub record ReadsOn (old : Seat) (reply : ReadReply) (new : Seat) : Type 0 where
+-- The seat read for at least n bytes once or more often, and made no other call. The last read was answered so, behind all that was seen before it, which ends with what the seat had seen before the call.
+pub record ReadsOn (n : ℕ) (old : Seat) (reply : ReadReply) (new : Seat) : Type 0 where
   pub found : List Call
   pub since : IsSince old found
-  pub seen : calls_of new.seen ≡ Read ∷ found
-  pub told : reply ≡ reply_to_read found
+  pub seen : calls_of new.seen ≡ Read n ∷ found
+  pub told : reply ≡ reply_to_read n found
   pub times : ℕ
-  pub own : new.own ≡ old.own ++ replicate times Read ++ Read ∷ []
+  pub own : new.own ≡ old.own ++ replicate times (Read n) ++ Read n ∷ []
 
 -- The seat committed a draft, and then nothing as often as it asked again, and made no other call. The last commit was answered so, behind all that was seen before it, which ends with what the seat had seen before the call.
 pub record FlushesOn (options : Options) (old : Seat) (draft : List Run) (reply : FlushReply) (new : Seat) : Type 0 where

@@ -31,4 +31,4 @@ StateAnswers before calls answer after = Answers (λ s. s.plain.control) (λ s. 
 -- the length that a read lends by its reply
 abbrev pub len_of : ReadReply → Option ℕ
 len_of (read.Ready canceled ended len) = Some len
-len_of (read.Pending examined) = None
+len_of (read.Pending examined held) = None

@@ -14,7 +14,7 @@ impl Model for Entry {
 
     ghost Value = { Call };
 
-    ghost view = { λ entry. Read };
+    ghost view = { λ entry. Read 0 };
 }
 
 /// What a pipe, its state and its seats are known by. It stands in contracts alone, and no value of this type is ever made.

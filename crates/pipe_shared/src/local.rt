@@ -175,10 +175,23 @@ impl LocalPipe {
     pub fn read(&mut self) -> (ReadReply, Wake)
         requires attended { IsNone self.old.pipe.control.gone }
         requires no_lend { IsNone self.old.pipe.control.lent }
-        ensures answers { LocalAnswers self.old (Read ∷ []) (Gave result.0 result.1) self.new }
+        ensures answers { LocalAnswers self.old (Read 0 ∷ []) (Gave result.0 result.1) self.new }
         ensures bytes { self.new.pipe.bytes ≡ self.old.pipe.bytes }
     {
-        self.plain.read()
+        self.read_at_least(0)
+    }
+
+    /// The same for at least `n` bytes, as `PipeReader.ReadAtLeastAsync(minimumSize)` does without waiting. Pending also where
+    /// fewer are committed and not consumed. A read for 1 byte or more that is answered Pending ends a pause, and none
+    /// begins while it waits; one for 0 is `read`.
+    pub fn read_at_least(&mut self, n: u64) -> (ReadReply, Wake)
+        requires bound { n ≤ 2 ^ 62 }
+        requires attended { IsNone self.old.pipe.control.gone }
+        requires no_lend { IsNone self.old.pipe.control.lent }
+        ensures answers { LocalAnswers self.old (Read n ∷ []) (Gave result.0 result.1) self.new }
+        ensures bytes { self.new.pipe.bytes ≡ self.old.pipe.bytes }
+    {
+        self.plain.read_at_least(n)
     }
 
     /// The bytes that the last read lent, in place: `ReadResult.Buffer`. What was committed since is not among them.

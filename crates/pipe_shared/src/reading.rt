@@ -1,6 +1,6 @@
 //! The reader's calls on a pipe.
 
-ghost use Rattle.std.specs.Prelude.{◌≡◌, ◌≤◌, [], ◌∷◌, length, None, IsNone, IsSomeAnd, IfOk, IfErr, option_map};
+ghost use Rattle.std.specs.Prelude.{◌≡◌, ◌≤◌, ◌^◌, [], ◌∷◌, length, None, IsNone, IsSomeAnd, IfOk, IfErr, option_map};
 ghost use Rattle.turn_cell.specs.Seat.{IsOf, IsIdle};
 ghost use Rattle.pipe_core.specs.History.{Read, Advance, EndReader};
 ghost use Rattle.pipe_core.specs.Lends.{lend};
@@ -23,13 +23,34 @@ impl Pipe {
         requires pipe { IsOf self.now r.old.seat }
         requires no_lend { IsNone r.old.lent }
         ensures pipe { IsIdle self.now r.new.seat }
-        ensures made { IfOk result (λ answer. Makes self.now.name.options r.old.seat (Read ∷ []) (Gave answer.0 answer.1) r.new.seat) }
+        ensures made { IfOk result (λ answer. Makes self.now.name.options r.old.seat (Read 0 ∷ []) (Gave answer.0 answer.1) r.new.seat) }
         ensures lent { IfOk result (λ _. r.new.lent ≡ lend (calls_of r.new.seat.seen)) }
         ensures lends { IfOk result (λ answer. option_map length r.new.lent ≡ len_of answer.0) }
         ensures refused { IfErr result (λ fault. Refuses fault r.old.seat r.new.seat) }
         ensures kept { IfErr result (λ _. r.new.lent ≡ r.old.lent) }
     {
-        let answer = turns::read(&self.cell, &mut r.seat, &mut r.part)?;
+        self.try_read_at_least(r, 0)
+    }
+
+    /// The same for at least `n` bytes, as `PipeReader.ReadAtLeastAsync(minimumSize)` does without waiting. Pending also where
+    /// fewer are committed and not consumed. A read for 1 byte or more that is answered Pending ends a pause, and none
+    /// begins while it waits; one for 0 is `try_read`.
+    pub fn try_read_at_least(
+        &self,
+        r: &mut ReaderEnd,
+        n: u64,
+    ) -> Result<(ReadReply, Wake), TryFault>
+        requires bound { n ≤ 2 ^ 62 }
+        requires pipe { IsOf self.now r.old.seat }
+        requires no_lend { IsNone r.old.lent }
+        ensures pipe { IsIdle self.now r.new.seat }
+        ensures made { IfOk result (λ answer. Makes self.now.name.options r.old.seat (Read n ∷ []) (Gave answer.0 answer.1) r.new.seat) }
+        ensures lent { IfOk result (λ _. r.new.lent ≡ lend (calls_of r.new.seat.seen)) }
+        ensures lends { IfOk result (λ answer. option_map length r.new.lent ≡ len_of answer.0) }
+        ensures refused { IfErr result (λ fault. Refuses fault r.old.seat r.new.seat) }
+        ensures kept { IfErr result (λ _. r.new.lent ≡ r.old.lent) }
+    {
+        let answer = turns::read::<Brand>(&self.cell, &mut r.seat, n, &mut r.part)?;
         self.unpark(answer.1);
         Ok(answer)
     }

@@ -76,18 +76,19 @@ impl PipeState {
         self.plain.write_last(bytes, code)
     }
 
-    // Reads, and where that is ready copies what is lent.
-    pub fn read(&mut self, copy: &mut Reading) -> (ReadReply, Wake)
+    // Reads for at least `n` bytes, and where that is ready copies what is lent.
+    pub fn read(&mut self, n: u64, copy: &mut Reading) -> (ReadReply, Wake)
+        requires bound { n ≤ 2 ^ 62 }
         requires attended { IsNone self.old.plain.control.gone }
         requires no_lend { IsNone self.old.plain.control.lent }
         requires settled { self.old.plain.bytes.draft ≡ [] }
         requires none { copy.old.bytes ≡ None }
         requires room { length self.old.plain.bytes.held ≤ copy.old.size }
-        ensures answers { StateAnswers self.old (Read ∷ []) (Gave result.0 result.1) self.new }
-        ensures lent { (h : List Call) → StateHolds self.old h → copy.new.bytes ≡ lend (Read ∷ h) }
+        ensures answers { StateAnswers self.old (Read n ∷ []) (Gave result.0 result.1) self.new }
+        ensures lent { (h : List Call) → StateHolds self.old h → copy.new.bytes ≡ lend (Read n ∷ h) }
         ensures size { copy.new.size ≡ copy.old.size }
     {
-        let (reply, wake) = self.plain.read();
+        let (reply, wake) = self.plain.read_at_least(n);
         copy_lent(&self.plain, reply, copy);
         (reply, wake)
     }

@@ -1,7 +1,7 @@
 //! The turns of a pipe's seats: each takes the turn by one exchange, makes one call's step on the state, and gives the
 //! turn back.
 
-ghost use Rattle.std.specs.Prelude.{◌≡◌, ◌+◌, ◌≤◌, ℕ, List, [], ◌∷◌, length, reverse, None, IsSomeAnd, IfErr, IfOk};
+ghost use Rattle.std.specs.Prelude.{◌≡◌, ◌+◌, ◌^◌, ◌≤◌, ℕ, List, [], ◌∷◌, length, reverse, None, IsSomeAnd, IfErr, IfOk};
 ghost use Rattle.turn_cell.specs.Seat.{IsOf, IsIdle};
 ghost use Rattle.pipe_core.specs.History.{Call, Commit, Read, Advance, EndReader, CancelRead, CancelFlush, bytes_of, closing, writer_end, reader_end};
 ghost use Rattle.pipe_core.specs.Lends.{lend};
@@ -115,27 +115,30 @@ pub fn look(cell: &TurnCell<PipeState>, seat: &mut TurnSeat<PipeState>) -> Resul
     Ok(len)
 }
 
-// Reads, and where that is ready copies what is lent.
-pub fn read(
+// Reads for at least `n` bytes, and where that is ready copies what is lent.
+pub fn read<A: Adds<Entry>>(
     cell: &TurnCell<PipeState>,
     seat: &mut TurnSeat<PipeState>,
+    n: u64,
     part: &mut Reading,
 ) -> Result<(ReadReply, Wake), TryFault>
+    requires bound { n ≤ 2 ^ 62 }
     requires seat { IsOf cell.now seat.old }
     requires attends { Attends seat.old }
     requires no_lend { lend (calls_of seat.old.seen) ≡ None }
     requires none { part.old.bytes ≡ None }
     requires size { part.old.size ≡ room_of cell.now.name.options }
+    requires entry { A.entries ≡ Read n ∷ [] }
     ensures seat { IsOf cell.now seat.new }
-    ensures made { IfOk result (λ answer. Makes cell.now.name.options seat.old (Read ∷ []) (Gave answer.0 answer.1) seat.new) }
+    ensures made { IfOk result (λ answer. Makes cell.now.name.options seat.old (Read n ∷ []) (Gave answer.0 answer.1) seat.new) }
     ensures lent { IfOk result (λ _. lend (calls_of seat.new.seen) ≡ part.new.bytes) }
     ensures refused { IfErr result (λ fault. Refuses fault seat.old seat.new) }
     ensures unchanged { IfErr result (λ _. part.new ≡ part.old) }
     ensures size { part.new.size ≡ part.old.size }
 {
     let mut held = take(cell, seat)?;
-    let answer = held.state_mut().read(part);
-    cell.put::<Brand>(seat, held, 1);
+    let answer = held.state_mut().read(n, part);
+    cell.put::<A>(seat, held, 1);
     Ok(answer)
 }
 

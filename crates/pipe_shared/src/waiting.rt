@@ -126,13 +126,28 @@ impl Pipe {
         requires pipe { IsOf self.now r.old.seat }
         requires no_lend { IsNone r.old.lent }
         ensures pipe { IsIdle self.now r.new.seat }
-        ensures at_last { (wake : Wake) × AtLast (TriesRead self.now.name.options) waits_to_read r.old (Ok (result, wake)) r.new }
+        ensures at_last { (wake : Wake) × AtLast (TriesRead self.now.name.options 0) waits_to_read r.old (Ok (result, wake)) r.new }
         ensures lends { IsSomeAnd r.new.lent (λ bytes. len_of result ≡ Some (length bytes)) }
-        ensures reads { ReadsOn r.old.seat result r.new.seat }
+        ensures reads { ReadsOn 0 r.old.seat result r.new.seat }
+    {
+        self.read_at_least(rt, r, 0)
+    }
+
+    /// The same for at least `n` bytes, as `PipeReader.ReadAtLeastAsync(minimumSize)` does: it waits also while fewer are
+    /// committed and not consumed, and no pause holds the writer meanwhile. Where the pipe has no room for `n` bytes it
+    /// returns only once the writer has completed or the read is canceled.
+    pub fn read_at_least<R: Wait>(&self, rt: &R, r: &mut ReaderEnd, n: u64) -> ReadReply
+        requires bound { n ≤ 2 ^ 62 }
+        requires pipe { IsOf self.now r.old.seat }
+        requires no_lend { IsNone r.old.lent }
+        ensures pipe { IsIdle self.now r.new.seat }
+        ensures at_last { (wake : Wake) × AtLast (TriesRead self.now.name.options n) waits_to_read r.old (Ok (result, wake)) r.new }
+        ensures lends { IsSomeAnd r.new.lent (λ bytes. len_of result ≡ Some (length bytes)) }
+        ensures reads { ReadsOn n r.old.seat result r.new.seat }
     {
         let mut attempts = Attempts::new();
         for _ in rt.forever() {
-            match self.try_read(r) {
+            match self.try_read_at_least(r, n) {
                 Ok(
                     (
                         ReadReply::Ready {

@@ -31,7 +31,7 @@ use Rattle.relay_engine.proofs.LaterLemmas.{all_as, none_is}
 may_behind : (h : List Call) (c e : ℕ) (call : Call) → seat_of call ≢ 1 → MayFollow (Advance c e) h → MayFollow (Advance c e) (call ∷ h)
 may_behind h c e (Commit runs) other may = may
 may_behind h c e (EndWriter code) other may = may
-may_behind h c e Read other may = absurd (other refl)
+may_behind h c e (Read n) other may = absurd (other refl)
 may_behind h c e (Advance c' e') other may = absurd (other refl)
 may_behind h c e (EndReader code) other may = absurd (other refl)
 may_behind h c e CancelRead other may = may
@@ -41,7 +41,7 @@ may_behind h c e CancelFlush other may = may
 exchanged : (d : DrainState) (h : List Call) (text : List ℕ) (c e : ℕ) (call : Call) → seat_of call ≢ 1 → IsDrained d (call ∷ Advance c e ∷ h) text → IsDrained d (Advance c e ∷ call ∷ h) text
 exchanged d h text c e (Commit runs) other drained = record { place = drained.place; passes = drained.passes; rest = drained.rest; short = drained.short; counted = drained.counted; known = drained.known; unended = drained.unended }
 exchanged d h text c e (EndWriter code) other drained = record { place = drained.place; passes = drained.passes; rest = drained.rest; short = drained.short; counted = drained.counted; known = drained.known; unended = drained.unended }
-exchanged d h text c e Read other drained = absurd (other refl)
+exchanged d h text c e (Read n) other drained = absurd (other refl)
 exchanged d h text c e (Advance c' e') other drained = absurd (other refl)
 exchanged d h text c e (EndReader code) other drained = absurd (other refl)
 exchanged d h text c e CancelRead other drained = record { place = drained.place; passes = drained.passes; rest = drained.rest; short = drained.short; counted = drained.counted; known = drained.known; unended = drained.unended }
@@ -112,7 +112,7 @@ concludes_longer job frames written h h' text y ends.SinkFault none more same_pl
 concludes_behind : (job : Job) (frames written : ℕ) (h : List Call) (text : List ℕ) (end : DrainEnd) (call : Call) → seat_of call ≢ 1 → IsLegal (call ∷ h) → Concludes job frames written h text end → Concludes job frames written (call ∷ h) text end
 concludes_behind job frames written h text end (Commit runs) other legal c = concludes_longer job frames written h (Commit runs ∷ h) text _ end (none_is (writer_end h) legal.1.0) (total_commit runs h) refl c
 concludes_behind job frames written h text end (EndWriter code) other legal c = concludes_longer job frames written h (EndWriter code ∷ h) text [] end (none_is (writer_end h) legal.1) (sym (append-nil (total h))) refl c
-concludes_behind job frames written h text end Read other legal c = absurd (other refl)
+concludes_behind job frames written h text end (Read n) other legal c = absurd (other refl)
 concludes_behind job frames written h text end (Advance c' e') other legal c = absurd (other refl)
 concludes_behind job frames written h text end (EndReader code) other legal c = absurd (other refl)
 concludes_behind job frames written h text end CancelRead other legal c = again job frames written h (CancelRead ∷ h) text end refl refl refl c

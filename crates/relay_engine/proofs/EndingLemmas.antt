@@ -45,7 +45,7 @@ bytes_are [] = refl
 bytes_are (Commit runs ∷ h) =
     flat_map-append bytes_of (commits_of h) (runs ∷ []) ∙ ap (λ (x : List ℕ). x ++ (bytes_of runs ++ [])) (bytes_are h) ∙ ap (λ (x : List ℕ). written h ++ x) (append-nil (bytes_of runs))
 bytes_are (EndWriter code ∷ h) = bytes_are h
-bytes_are (Read ∷ h) = bytes_are h
+bytes_are (Read n ∷ h) = bytes_are h
 bytes_are (Advance c e ∷ h) = bytes_are h
 bytes_are (EndReader code ∷ h) = bytes_are h
 bytes_are (CancelRead ∷ h) = bytes_are h
@@ -60,7 +60,7 @@ commits_alone (call ∷ h) going = ap (filter (λ call. seat_of call == 0)) (rev
         → filter (λ call. seat_of call == 0) (reverse h) ++ filter (λ call. seat_of call == 0) (c ∷ []) ≡ map (λ runs. Commit runs) (commits_of (c ∷ h))
     each (Commit runs) going rest = ap (λ (x : List Call). x ++ Commit runs ∷ []) (rest going) ∙ sym (map-append (λ (runs : List Run). Commit runs) (commits_of h) (runs ∷ []))
     each (EndWriter code) going rest = absurd cc
-    each Read going rest = append-nil (filter (λ call. seat_of call == 0) (reverse h)) ∙ rest going
+    each (Read n) going rest = append-nil (filter (λ call. seat_of call == 0) (reverse h)) ∙ rest going
     each (Advance c e) going rest = append-nil (filter (λ call. seat_of call == 0) (reverse h)) ∙ rest going
     each (EndReader code) going rest = append-nil (filter (λ call. seat_of call == 0) (reverse h)) ∙ rest going
     each CancelRead going rest = append-nil (filter (λ call. seat_of call == 0) (reverse h)) ∙ rest going

@@ -29,7 +29,7 @@ written_under : (others : Call → Type 0) → ((call : Call) → others call �
 written_under others apart [] h all = refl
 written_under others apart (Commit runs ∷ more) h all = absurd (apart (Commit runs) all.0 refl)
 written_under others apart (EndWriter code ∷ more) h all = written_under others apart more h all.1
-written_under others apart (Read ∷ more) h all = written_under others apart more h all.1
+written_under others apart (Read n ∷ more) h all = written_under others apart more h all.1
 written_under others apart (Advance c e ∷ more) h all = written_under others apart more h all.1
 written_under others apart (EndReader code ∷ more) h all = written_under others apart more h all.1
 written_under others apart (CancelRead ∷ more) h all = written_under others apart more h all.1
@@ -46,7 +46,7 @@ OrCommits others call = others call
 or_commits : (others : Call → Type 0) (call : Call) → others call → OrCommits others call
 or_commits others (Commit runs) is = tt
 or_commits others (EndWriter code) is = is
-or_commits others Read is = is
+or_commits others (Read n) is = is
 or_commits others (Advance c e) is = is
 or_commits others (EndReader code) is = is
 or_commits others CancelRead is = is

@@ -26,7 +26,7 @@ use Rattle.pipe_core.specs.Lends.{lend}
 use Rattle.pipe_core.specs.Legal.{IsLegal}
 use Rattle.span_seq.proofs.ScanLemmas.{at_none, position_past, stopped}
 use Rattle.std.proofs.lemmas.List.Sums.{prefix_len-le-length}
-use Rattle.pipe_core.proofs.OrderLemmas.{ordered, seen_all, total_commit}
+use Rattle.pipe_core.proofs.OrderLemmas.{ordered, pending_tells, plain_seen_all, total_commit}
 use Rattle.edge_core.specs.Device.{SinkState}
 use Rattle.relay_engine.specs.Frames.{Breaks, Drains, Passes, StopsAt, capped, verdict_of}
 use Rattle.relay_engine.specs.declared.frames.LendPassed.{LendPassed}
@@ -46,23 +46,18 @@ lent_if : (b : Bool) (bytes lent : List ℕ) → cond b (Some bytes) None ≡ So
 lent_if true bytes lent e = cc
 lent_if false bytes lent e = absurd cc
 
-pub lent_is_held : (h : List Call) (lent : List ℕ) → lend (Read ∷ h) ≡ Some lent → lent ≡ held h
-lent_is_held h lent e = lent_if (read_is_ready h) (held h) lent e
+pub lent_is_held : (h : List Call) (lent : List ℕ) → lend (Read 0 ∷ h) ≡ Some lent → lent ≡ held h
+lent_is_held h lent e = lent_if (read_is_ready 0 h) (held h) lent e
 
-ready_if : (b canceled canceled' : Bool) (ended ended' : Option ℕ) (len len' n : ℕ) → cond b (read.Ready canceled ended len) (read.Pending n) ≡ read.Ready canceled' ended' len' → (ended' ≡ ended) × (len' ≡ len)
+ready_if : (b canceled canceled' : Bool) (ended ended' : Option ℕ) (len len' n : ℕ) → cond b (read.Ready canceled ended len) (read.Pending n len) ≡ read.Ready canceled' ended' len' → (ended' ≡ ended) × (len' ≡ len)
 ready_if true canceled canceled' ended ended' len len' n e = (cc, cc)
 ready_if false canceled canceled' ended ended' len len' n e = absurd cc
 
-pub ready_says : (h : List Call) (canceled : Bool) (ended : Option ℕ) (len : ℕ) → reply_to_read h ≡ read.Ready canceled ended len → (ended ≡ writer_end h) × (len ≡ length (held h))
-ready_says h canceled ended len e = ready_if (read_is_ready h) (canceled_read h) canceled (writer_end h) ended (length (held h)) len (examined h) e
+pub ready_says : (h : List Call) (canceled : Bool) (ended : Option ℕ) (len : ℕ) → reply_to_read 0 h ≡ read.Ready canceled ended len → (ended ≡ writer_end h) × (len ≡ length (held h))
+ready_says h canceled ended len e = ready_if (read_is_ready 0 h) (canceled_read h) canceled (writer_end h) ended (length (held h)) len (examined h) e
 
-pending_if : (b canceled : Bool) (ended : Option ℕ) (len n n' : ℕ) → cond b (read.Ready canceled ended len) (read.Pending n) ≡ read.Pending n' → n' ≡ n
-pending_if true canceled ended len n n' e = absurd cc
-pending_if false canceled ended len n n' e = cc
-
-pub pending_says : (h : List Call) (n : ℕ) → IsLegal h → reply_to_read h ≡ read.Pending n → examined h ≡ length (total h)
-pending_says h n legal e =
-    sym (pending_if (read_is_ready h) (canceled_read h) (writer_end h) (length (held h)) (examined h) n e) ∙ seen_all h n legal e
+pub pending_says : (h : List Call) (n count : ℕ) → IsLegal h → reply_to_read 0 h ≡ read.Pending n count → examined h ≡ length (total h)
+pending_says h n count legal e = sym (pending_tells 0 h n count e).1 ∙ plain_seen_all h n count legal e
 
 -- ---- all that is committed, behind what was passed over
 
@@ -181,7 +176,7 @@ pub record Wrote (job : Job) (x : List ℕ) (at_end : Bool) (n i w : ℕ) (stop 
 
 -- the frames of a lend behind which more is wanted
 pub passed_on : (d : DrainState) (h : List Call) (text gain : List ℕ) (n i w r : ℕ) → r ≡ length (held h) - n → IsLegal h → IsDrained d h text → Wrote d.job (held h) false n i w stops.More gain
-    → IsDrained (added d n i w r) (Advance n (length (held h)) ∷ Read ∷ h) (text ++ gain)
+    → IsDrained (added d n i w r) (Advance n (length (held h)) ∷ Read 0 ∷ h) (text ++ gain)
 passed_on d h text gain n i w r left legal drained drains =
     let len = length (held h) in
     let all = text ++ gain in
@@ -344,7 +339,7 @@ behind_commit d h text runs legal drained =
 pub behind_call : (d : DrainState) (h : List Call) (text : List ℕ) (call : Call) → seat_of call ≢ 1 → IsLegal h → IsDrained d h text → IsDrained d (call ∷ h) text
 behind_call d h text (Commit runs) other legal drained = behind_commit d h text runs legal drained
 behind_call d h text (EndWriter code) other legal drained = record { place = drained.place; passes = drained.passes; rest = drained.rest; short = drained.short; counted = drained.counted; known = drained.known; unended = drained.unended }
-behind_call d h text Read other legal drained = absurd (other refl)
+behind_call d h text (Read n) other legal drained = absurd (other refl)
 behind_call d h text (Advance c e) other legal drained = absurd (other refl)
 behind_call d h text (EndReader code) other legal drained = absurd (other refl)
 behind_call d h text CancelRead other legal drained = record { place = drained.place; passes = drained.passes; rest = drained.rest; short = drained.short; counted = drained.counted; known = drained.known; unended = drained.unended }
@@ -378,7 +373,7 @@ lent_small h lent legal is =
     let order = ordered h legal in
     omega (arith, order.lent_in lent is, order.total_in)
 
-pub known_lend : (d : DrainState) (h : List Call) (text : List ℕ) → IsLegal h → IsDrained d h text → IsKnown d (Read ∷ h)
+pub known_lend : (d : DrainState) (h : List Call) (text : List ℕ) → IsLegal h → IsDrained d h text → IsKnown d (Read 0 ∷ h)
 known_lend d h text legal drained lent is =
     let same : lent ≡ drop d.place (looked_at h) ++ drop (examined h) (total h) = lent_is_held h lent is ∙ rest_and_more d h text drained in (
       omega (arith, drained.known, ap length same, length-append (drop d.place (looked_at h)) (drop (examined h) (total h))),

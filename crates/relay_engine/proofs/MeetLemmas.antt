@@ -22,7 +22,7 @@ pub written_more : (more h : List Call) → written (more ++ h) ≡ written h ++
 written_more [] h = sym (append-nil (written h))
 written_more (Commit runs ∷ more) h = ap (λ (x : List ℕ). x ++ bytes_of runs) (written_more more h) ∙ append_assoc (written h) (written more) (bytes_of runs)
 written_more (EndWriter code ∷ more) h = written_more more h
-written_more (Read ∷ more) h = written_more more h
+written_more (Read n ∷ more) h = written_more more h
 written_more (Advance c e ∷ more) h = written_more more h
 written_more (EndReader code ∷ more) h = written_more more h
 written_more (CancelRead ∷ more) h = written_more more h
@@ -32,7 +32,7 @@ written_more (CancelFlush ∷ more) h = written_more more h
 written_by_others : (call : Call) → seat_of call ≢ 0 → written (call ∷ []) ≡ []
 written_by_others (Commit runs) other = absurd (other refl)
 written_by_others (EndWriter code) other = absurd (other refl)
-written_by_others Read other = refl
+written_by_others (Read n) other = refl
 written_by_others (Advance c e) other = refl
 written_by_others (EndReader code) other = refl
 written_by_others CancelRead other = refl
@@ -92,7 +92,7 @@ pub total_attended : (h : List Call) → reader_end h ≡ None → total h ≡ w
 total_attended [] none = refl
 total_attended (Commit runs ∷ h) none = total_commit runs h ∙ rw none (ap (λ (x : List ℕ). x ++ bytes_of runs) (total_attended h none))
 total_attended (EndWriter code ∷ h) none = total_attended h none
-total_attended (Read ∷ h) none = total_attended h none
+total_attended (Read n ∷ h) none = total_attended h none
 total_attended (Advance c e ∷ h) none = total_attended h none
 total_attended (EndReader code ∷ h) none = absurd cc
 total_attended (CancelRead ∷ h) none = total_attended h none
@@ -103,7 +103,7 @@ unattended : (more h : List Call) → is_none (reader_end h) ≡ false → is_no
 unattended [] h gone = gone
 unattended (Commit runs ∷ more) h gone = unattended more h gone
 unattended (EndWriter code ∷ more) h gone = unattended more h gone
-unattended (Read ∷ more) h gone = unattended more h gone
+unattended (Read n ∷ more) h gone = unattended more h gone
 unattended (Advance c e ∷ more) h gone = unattended more h gone
 unattended (EndReader code ∷ more) h gone = refl
 unattended (CancelRead ∷ more) h gone = unattended more h gone
@@ -123,7 +123,7 @@ pub stays_ended : (more h : List Call) (code : ℕ) → IsLegal (more ++ h) → 
 stays_ended [] h code legal ended = record { ended = ended; none = refl }
 stays_ended (Commit runs ∷ more) h code legal ended = absurd (once_ended _ code (stays_ended more h code legal.0 ended).ended legal.1.0)
 stays_ended (EndWriter c ∷ more) h code legal ended = absurd (once_ended _ code (stays_ended more h code legal.0 ended).ended legal.1)
-stays_ended (Read ∷ more) h code legal ended = let rest = stays_ended more h code legal.0 ended in record { ended = rest.ended; none = rest.none }
+stays_ended (Read n ∷ more) h code legal ended = let rest = stays_ended more h code legal.0 ended in record { ended = rest.ended; none = rest.none }
 stays_ended (Advance c e ∷ more) h code legal ended = let rest = stays_ended more h code legal.0 ended in record { ended = rest.ended; none = rest.none }
 stays_ended (EndReader c ∷ more) h code legal ended = let rest = stays_ended more h code legal.0 ended in record { ended = rest.ended; none = rest.none }
 stays_ended (CancelRead ∷ more) h code legal ended = let rest = stays_ended more h code legal.0 ended in record { ended = rest.ended; none = rest.none }
@@ -139,7 +139,7 @@ reader_end_behind : (more h : List Call) → reader_end (more ++ h) ≡ None →
 reader_end_behind [] h none = none
 reader_end_behind (Commit runs ∷ more) h none = reader_end_behind more h none
 reader_end_behind (EndWriter code ∷ more) h none = reader_end_behind more h none
-reader_end_behind (Read ∷ more) h none = reader_end_behind more h none
+reader_end_behind (Read n ∷ more) h none = reader_end_behind more h none
 reader_end_behind (Advance c e ∷ more) h none = reader_end_behind more h none
 reader_end_behind (EndReader code ∷ more) h none = absurd cc
 reader_end_behind (CancelRead ∷ more) h none = reader_end_behind more h none

@@ -90,7 +90,7 @@ reader_stays : (more h : List Call) (code : ℕ) → AllByRecursion IsOthers mor
 reader_stays [] h code all legal is = is
 reader_stays (Commit runs ∷ more) h code all legal is = reader_stays more h code all.1 legal.0 is
 reader_stays (EndWriter other ∷ more) h code all legal is = reader_stays more h code all.1 legal.0 is
-reader_stays (Read ∷ more) h code all legal is = reader_stays more h code all.1 legal.0 is
+reader_stays (Read n ∷ more) h code all legal is = reader_stays more h code all.1 legal.0 is
 reader_stays (Advance c e ∷ more) h code all legal is = reader_stays more h code all.1 legal.0 is
 reader_stays (EndReader other ∷ more) h code all legal is = let gone = subst IsNone (reader_stays more h code all.1 legal.0 is) legal.1 in absurd cc
 reader_stays (CancelRead ∷ more) h code all legal is = reader_stays more h code all.1 legal.0 is

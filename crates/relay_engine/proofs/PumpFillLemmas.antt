@@ -79,7 +79,7 @@ behind_commits d h text [] all legal goes = record { goes = goes; examined_is = 
 behind_commits d h text (Commit runs ∷ calls) all legal goes =
     let so = behind_commits d h text calls all.1 legal.0 goes in record { goes = (goes_commit d (calls ++ h) text runs legal.0 so.goes).0; examined_is = so.examined_is; ended_is = so.ended_is }
 behind_commits d h text (EndWriter code ∷ calls) all legal goes = absurd all.0
-behind_commits d h text (Read ∷ calls) all legal goes = absurd all.0
+behind_commits d h text (Read n ∷ calls) all legal goes = absurd all.0
 behind_commits d h text (Advance c e ∷ calls) all legal goes = absurd all.0
 behind_commits d h text (EndReader code ∷ calls) all legal goes = absurd all.0
 behind_commits d h text (CancelRead ∷ calls) all legal goes = absurd all.0
@@ -212,8 +212,8 @@ took_end job sb s s' kb k f f' d p middle p' ending filled end wake rest once se
 -- ---- what doesn't come
 
 abbrev pub NeverBoth : Type 0
-NeverBoth = (pause resume : ℕ) (h : List Call) (examined held : ℕ) → (pause ≡ 0) ⊎ (1 ≤ resume) × (resume ≤ pause) → IsLegal h →
-    reply_to_read h ≡ read.Pending examined → reply_to_commit pause resume h [] ≡ flush.Pending held → ⊥
+NeverBoth = (pause resume : ℕ) (h : List Call) (examined held unexamined : ℕ) → (pause ≡ 0) ⊎ (1 ≤ resume) × (resume ≤ pause) → IsLegal h →
+    reply_to_read 0 h ≡ read.Pending examined held → reply_to_commit pause resume h [] ≡ flush.Pending unexamined → ⊥
 
 -- a pipe that rests has no bytes drafted, and doesn't hold the writer, so bytes were taken
 moved_some : (job : Job) (sb s s' : SourceState) (kb k : SinkState) (f f' : FillingState) (d : DrainingState) (p p' : Local) (ending : Option FillEnd) (n : ℕ) → (rest : AtRest job sb s kb k f d p ending) → (once : Once f p s (Moved n) f' p' s' rest.on.h (total rest.on.h)) → 0 < length once.taken
@@ -230,7 +230,7 @@ paused_some job sb s s' kb k f f' d p p' ending n law rest once = elim once.read
   | inl owed ↦
       let c = owed.settles in
       let found = later_same rest.on.h c.found c.later in
-      absurd (law p.options.pause p.options.resume rest.on.h (examined rest.on.h) n rest.on.thresholds.1 rest.on.holds.marks.legal rest.waits
+      absurd (law p.options.pause p.options.resume rest.on.h (examined rest.on.h) (length (held rest.on.h)) n rest.on.thresholds.1 rest.on.holds.marks.legal rest.waits
       (sym (ap (λ (x : List Call). reply_to_commit p.options.pause p.options.resume x []) found) ∙ sym (ap (λ (x : List ℕ). reply_to_commit p.options.pause p.options.resume c.found (run_in 0 x)) rest.on.draft) ∙ sym c.replied))
   | inr some ↦ some refl
 ]

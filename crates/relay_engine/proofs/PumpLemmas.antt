@@ -1,8 +1,9 @@
 -- How a relay on one thread goes on.
 use Rattle.std.specs.List.{AllByRecursion}
-use Rattle.std.proofs.Common.{◌≡◌, ◌≢◌, ◌<◌, ◌≤◌, ◌+◌, ◌-◌, ◌*◌, ◌⊎◌, inl, inr, ℕ, Bool, true, false, cond, if◌then◌else◌, nat_lt, List, [], ◌∷◌, ◌++◌, length, Option, Some, None, IsNone, Ok, Err, refl, sym, ap, ◌∙◌, subst, append-nil, arith}
-use Rattle.std.specs.Prelude.{is_none, is_some, option_map, unwrap_or, ◌||◌}
+use Rattle.std.proofs.Common.{◌≡◌, ◌≢◌, ◌<◌, ◌≤◌, ◌+◌, ◌-◌, ◌*◌, ◌⊎◌, inl, inr, ℕ, Bool, true, false, cond, if◌then◌else◌, nat_lt, nat_le, List, [], ◌∷◌, ◌++◌, length, Option, Some, None, IsNone, Ok, Err, refl, sym, ap, ◌∙◌, subst, append-nil, arith}
+use Rattle.std.specs.Prelude.{is_none, is_some, option_map, unwrap_or, ◌&&◌, ◌||◌}
 use Rattle.std.proofs.KnownBytes.{Consumes-nil}
+use Rattle.std.proofs.lemmas.Bool.{and_parts}
 use Rattle.edge_core.specs.Device.{SourceState, SinkState, Takes}
 use Rattle.edge_core.proofs.DeviceLemmas.{Takes-trans}
 use Rattle.frame_grammar.specs.declared.job.Job.{Job}
@@ -23,6 +24,7 @@ use Rattle.pipe_core.specs.Flushes.{flush_is_ready, reply_to_commit}
 use Rattle.pipe_core.specs.declared.reply.FlushReply.TheVariants as flush
 use Rattle.pipe_core.specs.Pipe.{HoldsFor}
 use Rattle.pipe_core.specs.Standing.{AreThresholds}
+use Rattle.pipe_core.proofs.OrderLemmas.{pending_tells}
 use Rattle.pipe_shared.specs.declared.options.Options.{Options}
 use Rattle.pipe_shared.specs.declared.faults.TryFault.{TryFault}
 use Rattle.pipe_shared.specs.Options.{room_of}
@@ -127,41 +129,36 @@ or_false : (a b : Bool) → (a || b) ≡ false → (a ≡ false) × (b ≡ false
 or_false false b is = (refl, is)
 or_false true b is = absurd cc
 
-not_ready : (b canceled : Bool) (ended : Option ℕ) (len n m : ℕ) → cond b (read.Ready canceled ended len) (read.Pending n) ≡ read.Pending m → b ≡ false
-not_ready false canceled ended len n m e = refl
-not_ready true canceled ended len n m e = absurd cc
-
-is_ready : (b canceled canceled' : Bool) (ended ended' : Option ℕ) (len len' n : ℕ) → cond b (read.Ready canceled ended len) (read.Pending n) ≡ read.Ready canceled' ended' len' → b ≡ true
+is_ready : (b canceled canceled' : Bool) (ended ended' : Option ℕ) (len len' n : ℕ) → cond b (read.Ready canceled ended len) (read.Pending n len) ≡ read.Ready canceled' ended' len' → b ≡ true
 is_ready true canceled canceled' ended ended' len len' n e = refl
 is_ready false canceled canceled' ended ended' len len' n e = absurd cc
-
-pub waits : (h : List Call) (n : ℕ) → reply_to_read h ≡ read.Pending n → read_is_ready h ≡ false
-waits h n e = not_ready (read_is_ready h) (canceled_read h) (writer_end h) (length (held h)) (examined h) n e
 
 no_code : (o : Option ℕ) → is_some o ≡ false → o ≡ None
 no_code None is = refl
 no_code (Some code) is = absurd cc
 
-pub goes_yet : (h : List Call) → read_is_ready h ≡ false → writer_end h ≡ None
-goes_yet h is = no_code (writer_end h) (or_false (canceled_read h) (is_some (writer_end h)) (or_false (canceled_read h || is_some (writer_end h)) (nat_lt 0 (unexamined h)) is).0).1
+pub goes_yet : (h : List Call) → read_is_ready 0 h ≡ false → writer_end h ≡ None
+goes_yet h is = no_code (writer_end h) (or_false (canceled_read h) (is_some (writer_end h)) (or_false (canceled_read h || is_some (writer_end h)) (nat_lt 0 (unexamined h) && nat_le 0 (length (held h))) is).0).1
 
 -- once the reader has examined all, its next read waits too
-waits_again : (h : List Call) → read_is_ready h ≡ false → reply_to_read (Read ∷ h) ≡ read.Pending (examined h)
+waits_again : (h : List Call) → read_is_ready 0 h ≡ false → reply_to_read 0 (Read 0 ∷ h) ≡ read.Pending (examined h) (length (held h))
 waits_again h is =
-    let parts = or_false (canceled_read h || is_some (writer_end h)) (nat_lt 0 (unexamined h)) is in
-    let never : read_is_ready (Read ∷ h) ≡ false =
-    ap (λ (b : Bool). b || nat_lt 0 (unexamined h)) (or_false (canceled_read h) (is_some (writer_end h)) parts.0).1 ∙ parts.1 in
-    ap (λ (b : Bool). if b then read.Ready false (writer_end h) (length (held h)) else read.Pending (examined h)) never
+    let enough = nat_lt 0 (unexamined h) && nat_le 0 (length (held h)) in
+    let parts = or_false (canceled_read h || is_some (writer_end h)) enough is in
+    let never : read_is_ready 0 (Read 0 ∷ h) ≡ false =
+    ap (λ (b : Bool). b || enough) (or_false (canceled_read h) (is_some (writer_end h)) parts.0).1 ∙ parts.1 in
+    ap (λ (b : Bool). if b then read.Ready false (writer_end h) (length (held h)) else read.Pending (examined h) (length (held h))) never
 
-none_lent : (h : List Call) → read_is_ready h ≡ false → lend (Read ∷ h) ≡ None
+none_lent : (h : List Call) → read_is_ready 0 h ≡ false → lend (Read 0 ∷ h) ≡ None
 none_lent h is = ap (λ (b : Bool). if b then Some (held h) else None) is
 
 -- a read that lends while the writer goes on finds bytes that weren't examined
-pub some_unexamined : (h : List Call) (canceled : Bool) (len : ℕ) → canceled_read h ≡ false → reply_to_read h ≡ read.Ready canceled None len → nat_lt 0 (unexamined h) ≡ true
+pub some_unexamined : (h : List Call) (canceled : Bool) (len : ℕ) → canceled_read h ≡ false → reply_to_read 0 h ≡ read.Ready canceled None len → nat_lt 0 (unexamined h) ≡ true
 some_unexamined h canceled len uncanceled e =
-    let ready = is_ready (read_is_ready h) (canceled_read h) canceled (writer_end h) None (length (held h)) len (examined h) e in
+    let ready = is_ready (read_is_ready 0 h) (canceled_read h) canceled (writer_end h) None (length (held h)) len (examined h) e in
     let open_yet : writer_end h ≡ None = sym (ready_says h canceled None len e).0 in
-    sym (ap (λ (b : Bool). b || nat_lt 0 (unexamined h)) (ap (λ (b : Bool). b || is_some (writer_end h)) uncanceled ∙ ap is_some open_yet)) ∙ ready
+    let enough = nat_lt 0 (unexamined h) && nat_le 0 (length (held h)) in
+    (and_parts (nat_lt 0 (unexamined h)) (nat_le 0 (length (held h))) (sym (ap (λ (b : Bool). b || enough) (ap (λ (b : Bool). b || is_some (writer_end h)) uncanceled ∙ ap is_some open_yet)) ∙ ready)).0
 
 flush_if : (b canceled canceled' : Bool) (code code' : Option ℕ) (n : ℕ) → cond b (flush.Ready canceled code) (flush.Pending n) ≡ flush.Ready canceled' code' → code' ≡ code
 flush_if true canceled canceled' code code' n e = cc
@@ -194,7 +191,7 @@ not_one P n other (inr is) = absurd is
 
 by_reader : (h calls : List Call) → AllByRecursion (OrReaders NoOthers) calls → Same h (calls ++ h)
 by_reader h [] all = record { total_is = refl; written_is = refl; ended_is = refl; uncanceled = λ none. none }
-by_reader h (Read ∷ calls) all = let so = by_reader h calls all.1 in record { total_is = so.total_is; written_is = so.written_is; ended_is = so.ended_is; uncanceled = λ none. refl }
+by_reader h (Read n ∷ calls) all = let so = by_reader h calls all.1 in record { total_is = so.total_is; written_is = so.written_is; ended_is = so.ended_is; uncanceled = λ none. refl }
 by_reader h (Advance c e ∷ calls) all = let so = by_reader h calls all.1 in record { total_is = so.total_is; written_is = so.written_is; ended_is = so.ended_is; uncanceled = so.uncanceled }
 by_reader h (EndReader code ∷ calls) all = let so = by_reader h calls all.1 in record { total_is = so.total_is; written_is = so.written_is; ended_is = so.ended_is; uncanceled = so.uncanceled }
 by_reader h (Commit runs ∷ calls) all = not_one (Same h (Commit runs ∷ calls ++ h)) 0 (λ is. absurd (omega (arith, is))) all.0
@@ -283,7 +280,7 @@ moved_less job sb s kb k k' f d d' p p' ending frames gone on once =
     let moves = subst (λ (o : Option Owed). MovesBy NoOthers o d h frames d' a.now) on.fresh a.how.0 in
     let found = later_same h moves.found moves.later in
     let before : nat_lt 0 (p.pipe.control.committed - p.pipe.control.examined) ≡ true =
-    rw (on.holds.marks.committed, on.holds.marks.examined) (some_unexamined h moves.canceled moves.len on.goes.uncanceled (subst (λ (x : List Call). reply_to_read x ≡ read.Ready moves.canceled None moves.len) found moves.told)) in
+    rw (on.holds.marks.committed, on.holds.marks.examined) (some_unexamined h moves.canceled moves.len on.goes.uncanceled (subst (λ (x : List Call). reply_to_read 0 x ≡ read.Ready moves.canceled None moves.len) found moves.told)) in
     let now : nat_lt 0 (p'.pipe.control.committed - p'.pipe.control.examined) ≡ false =
     none_left _ _ (omega (arith, a.stands.marks.committed, a.stands.marks.examined, moves.all_seen, ap length so.same.total_is, ap (λ (x : List Call). length (total x)) found)) in
     fuel_less (2 * (f.limit - f.taken)) (if is_none ending then 1 else 0) (nat_lt 0 (p'.pipe.control.committed - p'.pipe.control.examined)) (nat_lt 0 (p.pipe.control.committed - p.pipe.control.examined)) now before
@@ -293,7 +290,7 @@ pub record AtRest (job : Job) (sb s : SourceState) (kb k : SinkState) (f : Filli
   pub on : Pumps job sb s kb k f d p ending
   pub none_yet : ending ≡ None
   pub all_seen : examined on.h ≡ length (total on.h)
-  pub waits : reply_to_read on.h ≡ read.Pending (examined on.h)
+  pub waits : reply_to_read 0 on.h ≡ read.Pending (examined on.h) (length (held on.h))
 
 pub idle : (job : Job) (sb s : SourceState) (kb k : SinkState) (f : FillingState) (d d' : DrainingState) (p p' : Local) (ending : Option FillEnd) (n : ℕ) (k' : SinkState) → IsNone p'.pipe.control.gone → Pumps job sb s kb k f d p ending → DrainsLocal d p k (Idle n) d' p' k' → AtRest job sb s kb k' f d' p' ending
 idle job sb s kb k f d d' p p' ending n k' gone on once =
@@ -301,18 +298,18 @@ idle job sb s kb k f d d' p p' ending n k' gone on once =
     let a = once.cause h on.text on.holds (so_far d h on.text on.fresh on.goes.drained) in
     let idles = a.how.0 in
     let found = later_same h idles.found idles.later in
-    let told = subst (λ (x : List Call). reply_to_read x ≡ read.Pending n) found idles.told in
-    let waiting = waits h n told in
-    let now : a.now ≡ Read ∷ h = idles.is ∙ ap (λ (x : List Call). Read ∷ x) found in
+    let told = subst (λ (x : List Call). reply_to_read 0 x ≡ read.Pending n (length (held x))) found idles.told in
+    let waiting = (pending_tells 0 h n (length (held h)) told).0 in
+    let now : a.now ≡ Read 0 ∷ h = idles.is ∙ ap (λ (x : List Call). Read 0 ∷ x) found in
     let kept = same_aside p p' once.kept in
     let drained = on.goes.drained in
     record {
       on = record {
-        h = Read ∷ h;
+        h = Read 0 ∷ h;
         text = on.text;
         holds = subst (λ (x : List Call). HoldsFor p'.pipe x) now a.stands;
         goes = record {
-          drained = subst (λ (e : DrainingState). IsDrained e.drained (Read ∷ h) on.text) (sym idles.unchanged) (record { place = drained.place; passes = drained.passes; rest = drained.rest; short = drained.short; counted = drained.counted; known = drained.known; unended = drained.unended });
+          drained = subst (λ (e : DrainingState). IsDrained e.drained (Read 0 ∷ h) on.text) (sym idles.unchanged) (record { place = drained.place; passes = drained.passes; rest = drained.rest; short = drained.short; counted = drained.counted; known = drained.known; unended = drained.unended });
           kept = on.goes.kept;
           attended = on.goes.attended;
           no_lend = none_lent h waiting;
@@ -332,7 +329,7 @@ idle job sb s kb k f d d' p p' ending n k' gone on once =
         thresholds = subst (λ (o : Options). AreThresholds o.pause o.resume) (sym (ap (λ a. a.options) kept)) on.thresholds;
       };
       none_yet = none_of ending (sym on.ended ∙ goes_yet h waiting);
-      all_seen = pending_says h n on.holds.marks.legal told;
+      all_seen = pending_says h n (length (held h)) on.holds.marks.legal told;
       waits = waits_again h waiting;
     }
   where

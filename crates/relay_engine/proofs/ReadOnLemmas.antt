@@ -17,7 +17,7 @@ use Rattle.pipe_core.specs.Progress.{total, consumed, examined, held}
 use Rattle.pipe_core.specs.Reads.{reply_to_read}
 use Rattle.pipe_core.specs.Lends.{lend}
 use Rattle.pipe_core.specs.Legal.{IsLegal, MayFollow}
-use Rattle.pipe_core.proofs.OrderLemmas.{ordered}
+use Rattle.pipe_core.proofs.OrderLemmas.{ordered, pending_tells}
 use Rattle.pipe_shared.specs.declared.faults.TryFault.{TryFault}
 use Rattle.relay_engine.specs.Frames.{Drains, Passes, verdict_of}
 use Rattle.relay_engine.specs.Later.{CallsLater, HearsLater, Later}
@@ -66,13 +66,13 @@ no_fault_at stops.More (Some code) place end at = sym (ap (λ (e : DrainEnd). is
 no_fault_at stops.More None place end at = absurd cc
 
 -- where an advance passes them
-passed_at : (d : DrainState) (h : List Call) (text gain : List ℕ) (n i w r c e : ℕ) (stop : Stop) → c ≡ n → IsDrained d h text → EndFacts d h text gain n i w r stop → Passes d.job (total h) (is_whole h) (consumed (Advance c e ∷ Read ∷ h)) (added d n i w r).frames (text ++ gain)
+passed_at : (d : DrainState) (h : List Call) (text gain : List ℕ) (n i w r c e : ℕ) (stop : Stop) → c ≡ n → IsDrained d h text → EndFacts d h text gain n i w r stop → Passes d.job (total h) (is_whole h) (consumed (Advance c e ∷ Read 0 ∷ h)) (added d n i w r).frames (text ++ gain)
 passed_at d h text gain n i w r c e stop same drained facts =
     subst (λ (k : ℕ). Passes d.job (total h) (is_whole h) k (added d n i w r).frames (text ++ gain)) (omega (arith, facts.place, drained.place, same)) facts.passes
 
 -- all that is to be written was
 concludes_well : (d : DrainState) (h : List Call) (text gain : List ℕ) (n i w r c e : ℕ) (stop : Stop) (end : DrainEnd) → c ≡ n → IsDrained d h text → EndFacts d h text gain n i w r stop → EndsAs (writer_end h) (added d n i w r).place stop end
-    → Concludes d.job (added d n i w r).frames (added d n i w r).written (Advance c e ∷ Read ∷ h) (text ++ gain) end
+    → Concludes d.job (added d n i w r).frames (added d n i w r).written (Advance c e ∷ Read 0 ∷ h) (text ++ gain) end
 concludes_well d h text gain n i w r c e stop end same drained facts so = record {
   front = ([], append-nil (text ++ gain) ∙ sym (ap (λ t. t.text) facts.said));
   whole = λ passed. sym (ap (λ t. t.text) facts.said);
@@ -84,7 +84,7 @@ concludes_well d h text gain n i w r c e stop end same drained facts so = record
 }
 
 -- and the flush behind it failed
-concludes_unflushed : (d : DrainState) (h : List Call) (text gain : List ℕ) (n i w r c e : ℕ) (stop : Stop) → EndFacts d h text gain n i w r stop → Concludes d.job (added d n i w r).frames (added d n i w r).written (Advance c e ∷ Read ∷ h) (text ++ gain) ends.SinkFault
+concludes_unflushed : (d : DrainState) (h : List Call) (text gain : List ℕ) (n i w r c e : ℕ) (stop : Stop) → EndFacts d h text gain n i w r stop → Concludes d.job (added d n i w r).frames (added d n i w r).written (Advance c e ∷ Read 0 ∷ h) (text ++ gain) ends.SinkFault
 concludes_unflushed d h text gain n i w r c e stop facts = record {
   front = ([], append-nil (text ++ gain) ∙ sym (ap (λ t. t.text) facts.said));
   whole = λ passed. absurd cc;
@@ -99,7 +99,7 @@ concludes_unflushed d h text gain n i w r c e stop facts = record {
 
 -- What a read has lent, and what was written of it.
 record IsLent (d d1 : DrainState) (found : List Call) (text : List ℕ) (ended : Option ℕ) (lent : List ℕ) (before written : SinkState) (drained : LendPassed) (owed : Owed) : Type 0 where
-  legal : IsLegal (Read ∷ found)
+  legal : IsLegal (Read 0 ∷ found)
   same : lent ≡ held found
   code : ended ≡ writer_end found
   passed_so_far : IsDrained d found text
@@ -114,7 +114,7 @@ all_wrote d d1 found text ended lent before written drained owed l =
     end_facts d found text l.drains.text drained.passed drained.frames drained.written (length lent - drained.passed) drained.stop l.legal.0 l.passed_so_far (wrote_all d.job lent (held found) ended (writer_end found) before written drained l.same l.code l.drains)
 
 stands_by : (d d1 : DrainState) (found : List Call) (text : List ℕ) (ended : Option ℕ) (lent : List ℕ) (before written after : SinkState) (drained : LendPassed) (owed : Owed) (o : Option DrainEnd) → (l : IsLent d d1 found text ended lent before written drained owed)
-    → end_at drained.stop ended d1.place ≡ o → EndsOwed o written owed.end after → StandsBehind d1 owed.end (Advance owed.passed owed.len ∷ Read ∷ found) (text ++ l.drains.text)
+    → end_at drained.stop ended d1.place ≡ o → EndsOwed o written owed.end after → StandsBehind d1 owed.end (Advance owed.passed owed.len ∷ Read 0 ∷ found) (text ++ l.drains.text)
 stands_by d d1 found text ended lent before written after drained owed None l at ends_owed =
     let so = goes_on_so drained.stop ended d1.place at in
     let n = drained.passed in
@@ -122,14 +122,14 @@ stands_by d d1 found text ended lent before written after drained owed None l at
     let gain = l.drains.text in
     let more = subst (λ (stop : Stop). Wrote d.job (held found) false n drained.frames drained.written stop gain) so.0 (wrote_all d.job lent (held found) ended None before written drained l.same so.1 l.drains) in
     let passed = passed_on d found text gain n drained.frames drained.written r (ap (λ (x : List ℕ). length x - n) l.same) l.legal.0 l.passed_so_far more in
-    subst (λ (o : Option DrainEnd). StandsBehind d1 o (Advance owed.passed owed.len ∷ Read ∷ found) (text ++ gain)) (sym ends_owed.0)
-    (subst (λ (e : DrainState). IsDrained e (Advance owed.passed owed.len ∷ Read ∷ found) (text ++ gain)) (sym l.drainer)
-    (subst (λ (c : ℕ). IsDrained (added d n drained.frames drained.written r) (Advance c owed.len ∷ Read ∷ found) (text ++ gain)) (sym l.passed)
-    (subst (λ (e : ℕ). IsDrained (added d n drained.frames drained.written r) (Advance n e ∷ Read ∷ found) (text ++ gain)) (sym (l.len ∙ ap length l.same)) passed)))
+    subst (λ (o : Option DrainEnd). StandsBehind d1 o (Advance owed.passed owed.len ∷ Read 0 ∷ found) (text ++ gain)) (sym ends_owed.0)
+    (subst (λ (e : DrainState). IsDrained e (Advance owed.passed owed.len ∷ Read 0 ∷ found) (text ++ gain)) (sym l.drainer)
+    (subst (λ (c : ℕ). IsDrained (added d n drained.frames drained.written r) (Advance c owed.len ∷ Read 0 ∷ found) (text ++ gain)) (sym l.passed)
+    (subst (λ (e : ℕ). IsDrained (added d n drained.frames drained.written r) (Advance n e ∷ Read 0 ∷ found) (text ++ gain)) (sym (l.len ∙ ap length l.same)) passed)))
 stands_by d d1 found text ended lent before written after drained owed (Some end) l at ends_owed =
     let facts = all_wrote d d1 found text ended lent before written drained owed l in
     let gain = l.drains.text in
-    let all = Advance owed.passed owed.len ∷ Read ∷ found in
+    let all = Advance owed.passed owed.len ∷ Read 0 ∷ found in
     subst (λ (o : Option DrainEnd). StandsBehind d1 o all (text ++ gain)) (sym ends_owed.1)
     (elim ends_owed.2 [
       | inl flushed ↦
@@ -143,15 +143,15 @@ stands_by d d1 found text ended lent before written after drained owed (Some end
           (told ends.SinkFault (concludes_unflushed d found text gain _ _ _ _ owed.passed owed.len drained.stop facts))
     ])
   where
-    told : (e : DrainEnd) → Concludes d.job (added d drained.passed drained.frames drained.written (length lent - drained.passed)).frames (added d drained.passed drained.frames drained.written (length lent - drained.passed)).written (Advance owed.passed owed.len ∷ Read ∷ found) (text ++ l.drains.text) e
-        → Concludes d1.job d1.frames d1.written (Advance owed.passed owed.len ∷ Read ∷ found) (text ++ l.drains.text) e
-    told e c = subst (λ (s : DrainState). Concludes s.job s.frames s.written (Advance owed.passed owed.len ∷ Read ∷ found) (text ++ l.drains.text) e) (sym l.drainer) c
+    told : (e : DrainEnd) → Concludes d.job (added d drained.passed drained.frames drained.written (length lent - drained.passed)).frames (added d drained.passed drained.frames drained.written (length lent - drained.passed)).written (Advance owed.passed owed.len ∷ Read 0 ∷ found) (text ++ l.drains.text) e
+        → Concludes d1.job d1.frames d1.written (Advance owed.passed owed.len ∷ Read 0 ∷ found) (text ++ l.drains.text) e
+    told e c = subst (λ (s : DrainState). Concludes s.job s.frames s.written (Advance owed.passed owed.len ∷ Read 0 ∷ found) (text ++ l.drains.text) e) (sym l.drainer) c
 
-may_advance : (found : List Call) (lent : List ℕ) (c e : ℕ) → IsLegal (Read ∷ found) → lend (Read ∷ found) ≡ Some lent → c ≤ e → e ≤ length lent → MayFollow (Advance c e) (Read ∷ found)
+may_advance : (found : List Call) (lent : List ℕ) (c e : ℕ) → IsLegal (Read 0 ∷ found) → lend (Read 0 ∷ found) ≡ Some lent → c ≤ e → e ≤ length lent → MayFollow (Advance c e) (Read 0 ∷ found)
 may_advance found lent c e legal lends first second = (legal.1.0, subst (λ (o : Option (List ℕ)). IsSomeAnd o (λ bytes. (c ≤ e) × (e ≤ length bytes))) (sym lends) (first, second))
 
-owes_lend : (d d1 : DrainState) (found : List Call) (text : List ℕ) (ended : Option ℕ) (lent : List ℕ) (before written after : SinkState) (drained : LendPassed) (owed : Owed) → (l : IsLent d d1 found text ended lent before written drained owed) → lend (Read ∷ found) ≡ Some lent
-    → EndsOwed (end_at drained.stop ended d1.place) written owed.end after → Owes d1 owed (Read ∷ found) (text ++ l.drains.text)
+owes_lend : (d d1 : DrainState) (found : List Call) (text : List ℕ) (ended : Option ℕ) (lent : List ℕ) (before written after : SinkState) (drained : LendPassed) (owed : Owed) → (l : IsLent d d1 found text ended lent before written drained owed) → lend (Read 0 ∷ found) ≡ Some lent
+    → EndsOwed (end_at drained.stop ended d1.place) written owed.end after → Owes d1 owed (Read 0 ∷ found) (text ++ l.drains.text)
 owes_lend d d1 found text ended lent before written after drained owed l lends ends_owed = record {
   may = may_advance found lent owed.passed owed.len l.legal lends (omega (arith, l.passed, l.len, l.drains.passes.within)) (omega (arith, l.len));
   behind = stands_by d d1 found text ended lent before written after drained owed (end_at drained.stop ended d1.place) l refl ends_owed;
@@ -188,18 +188,18 @@ same_marks : (others : Call → Type 0) → ((call : Call) → others call → s
 same_marks others ours h [] all = (refl, refl)
 same_marks others ours h (Commit runs ∷ calls) all = same_marks others ours h calls all.1
 same_marks others ours h (EndWriter code ∷ calls) all = same_marks others ours h calls all.1
-same_marks others ours h (Read ∷ calls) all = absurd (ours Read all.0 refl)
+same_marks others ours h (Read n ∷ calls) all = absurd (ours (Read n) all.0 refl)
 same_marks others ours h (Advance c e ∷ calls) all = absurd (ours (Advance c e) all.0 refl)
 same_marks others ours h (EndReader code ∷ calls) all = absurd (ours (EndReader code) all.0 refl)
 same_marks others ours h (CancelRead ∷ calls) all = same_marks others ours h calls all.1
 same_marks others ours h (CancelFlush ∷ calls) all = same_marks others ours h calls all.1
 
-sees_all : (others : Call → Type 0) → ((call : Call) → others call → seat_of call ≢ 1) → (found k : List Call) (owed : Owed) → IsLegal found → IsAdvanced others owed (Read ∷ found) k → owed.len ≡ length (held found) → examined k ≡ length (total found)
+sees_all : (others : Call → Type 0) → ((call : Call) → others call → seat_of call ≢ 1) → (found k : List Call) (owed : Owed) → IsLegal found → IsAdvanced others owed (Read 0 ∷ found) k → owed.len ≡ length (held found) → examined k ≡ length (total found)
 sees_all others ours found k owed legal advanced len =
-    let same = same_marks others ours (Read ∷ found) advanced.later.between advanced.later.all in
+    let same = same_marks others ours (Read 0 ∷ found) advanced.later.between advanced.later.all in
     let whole = held_is found legal in
     let order = ordered found legal in
-    let now : examined k ≡ max (examined (advanced.later.between ++ Read ∷ found)) (consumed (advanced.later.between ++ Read ∷ found) + owed.len) =
+    let now : examined k ≡ max (examined (advanced.later.between ++ Read 0 ∷ found)) (consumed (advanced.later.between ++ Read 0 ∷ found) + owed.len) =
     ap (λ (x : List Call). examined x) (advanced.is ∙ ap (λ (x : List Call). Advance owed.passed owed.len ∷ x) advanced.later.is) in
     omega (arith, now, same.0, same.1, whole, len, order.examined_in)
 
@@ -210,10 +210,10 @@ drained_of d h text fresh passed = subst (λ (o : Option Owed). Stands d.drained
 passed_of : (d : DrainingState) (h : List Call) (text : List ℕ) → d.owed ≡ None → IsDrained d.drained h text → HasPassed d h text
 passed_of d h text fresh drained = subst (λ (o : Option Owed). Stands d.drained o h text) (sym fresh) drained
 
-behind_read : (d : DrainState) (h : List Call) (text : List ℕ) → IsDrained d h text → IsDrained d (Read ∷ h) text
+behind_read : (d : DrainState) (h : List Call) (text : List ℕ) → IsDrained d h text → IsDrained d (Read 0 ∷ h) text
 behind_read d h text drained = record { place = drained.place; passes = drained.passes; rest = drained.rest; short = drained.short; counted = drained.counted; known = drained.known; unended = drained.unended }
 
-pub as_reply : {P : Type 0} (at : P → List Call → Type 0) (others : Call → Type 0) (h : List Call) (reply reply' : ReadReply) (p : P) → reply ≡ reply' → CallsLater at others h Read (λ found. reply ≡ reply_to_read found) p → CallsLater at others h Read (λ found. reply' ≡ reply_to_read found) p
+pub as_reply : {P : Type 0} (at : P → List Call → Type 0) (others : Call → Type 0) (h : List Call) (reply reply' : ReadReply) (p : P) → reply ≡ reply' → CallsLater at others h (Read 0) (λ found. reply ≡ reply_to_read 0 found) p → CallsLater at others h (Read 0) (λ found. reply' ≡ reply_to_read 0 found) p
 as_reply at others h reply reply' p same called = record { found = called.found; later = called.later; so = sym same ∙ called.so; legal = called.legal; stands = called.stands }
 
 pub read_refused : {P A : Type 0} (at : P → List Call → Type 0) (others : Call → Type 0) (refuses : TryFault → P → P → Type 0) (tally : P → Tally) (lent : P → Option ℕ) (aside : P → A) (d : DrainingState) (p p' : P) (k : SinkState) (fault : TryFault) → d.owed ≡ None
@@ -239,22 +239,22 @@ read_refused at others refuses tally lent aside d p p' k fault fresh ours hears 
   within = subst (λ (o : Option Owed). IsWithin o) (sym fresh) tt;
 }
 
-pub read_pending : {P A : Type 0} (at : P → List Call → Type 0) (others : Call → Type 0) (refuses : TryFault → P → P → Type 0) (tally : P → Tally) (lent : P → Option ℕ) (aside : P → A) (d : DrainingState) (p p' : P) (k : SinkState) (n : ℕ) → d.owed ≡ None → ((call : Call) → others call → seat_of call ≢ 1)
-    → ((h : List Call) → at p h → CallsLater at others h Read (λ found. read.Pending n ≡ reply_to_read found) p') → lent p' ≡ None → aside p' ≡ aside p → Spends 0 (tally p) (tally p') → DrainsOnce at others refuses tally lent aside d p k (Ok (Idle n)) d p' k
-read_pending at others refuses tally lent aside d p p' k n fresh ours reads none kept spent = record {
+pub read_pending : {P A : Type 0} (at : P → List Call → Type 0) (others : Call → Type 0) (refuses : TryFault → P → P → Type 0) (tally : P → Tally) (lent : P → Option ℕ) (aside : P → A) (d : DrainingState) (p p' : P) (k : SinkState) (n count : ℕ) → d.owed ≡ None → ((call : Call) → others call → seat_of call ≢ 1)
+    → ((h : List Call) → at p h → CallsLater at others h (Read 0) (λ found. read.Pending n count ≡ reply_to_read 0 found) p') → lent p' ≡ None → aside p' ≡ aside p → Spends 0 (tally p) (tally p') → DrainsOnce at others refuses tally lent aside d p k (Ok (Idle n)) d p' k
+read_pending at others refuses tally lent aside d p p' k n count fresh ours reads none kept spent = record {
   gain = [];
   gained = subst (λ (o : Option Owed). GainsBy o false k [] k) (sym fresh) (takes_nothing k k refl);
   cause = λ h text is passed.
       let r = reads h is in
       let at_found = drained_later others ours d.drained h r.found text r.later r.legal.0 (drained_of d h text fresh passed) in
       record {
-        now = Read ∷ r.found;
-        on = with_call others h r.found Read refl (later_goes others h r.found r.later);
+        now = Read 0 ∷ r.found;
+        on = with_call others h r.found (Read 0) refl (later_goes others h r.found r.later);
         legal = r.legal;
         stands = r.stands;
         how = (
-          record { found = r.found; later = r.later; told = sym r.so; is = refl; none = refl; unchanged = refl; none_owed = fresh },
-          passed_of d (Read ∷ r.found) text fresh (behind_read d.drained r.found text at_found),
+          record { found = r.found; later = r.later; told = sym r.so ∙ ap (read.Pending n) (pending_tells 0 r.found n count (sym r.so)).2; is = refl; none = refl; unchanged = refl; none_owed = fresh },
+          passed_of d (Read 0 ∷ r.found) text fresh (behind_read d.drained r.found text at_found),
         );
       };
   job = refl;
@@ -268,7 +268,7 @@ read_pending at others refuses tally lent aside d p p' k n fresh ours reads none
 
 -- what the advance came to is what the step did
 step_by : {P : Type 0} (at : P → List Call → Type 0) (others : Call → Type 0) (refuses : TryFault → P → P → Type 0) (tally : P → Tally) (d d1 d' : DrainingState) (h found : List Call) (text gain : List ℕ) (p p1 p' : P) (result : Result Progress TryFault) (owed : Owed) (k : List Call) → d.owed ≡ None → Spends 0 (tally p) (tally p1)
-    → AdvancesBy at others refuses d1 owed (Read ∷ found) (text ++ gain) p1 result d' k p' → ((frames : ℕ) → owed.end ≡ None → frames ≡ owed.frames → d' ≡ record d1 { owed = None } → IsAdvanced others owed (Read ∷ found) k → MovesBy others None d h frames d' k)
+    → AdvancesBy at others refuses d1 owed (Read 0 ∷ found) (text ++ gain) p1 result d' k p' → ((frames : ℕ) → owed.end ≡ None → frames ≡ owed.frames → d' ≡ record d1 { owed = None } → IsAdvanced others owed (Read 0 ∷ found) k → MovesBy others None d h frames d' k)
     → StepsBy at others refuses tally d h text gain p result d' k p'
 step_by at others refuses tally d d1 d' h found text gain p p1 p' (Ok (Idle n)) owed k fresh first how moves = absurd how
 step_by at others refuses tally d d1 d' h found text gain p p1 p' (Ok (Moved frames)) owed k fresh first how moves = (
@@ -294,7 +294,7 @@ advanced_goes at others refuses d d' owed h text p p' (Ok (Ended end)) k how =
 advanced_goes at others refuses d d' owed h text p p' (Err fault) k how = later_goes others h k how.0
 
 pub read_passed : {P A : Type 0} (at : P → List Call → Type 0) (others : Call → Type 0) (refuses : TryFault → P → P → Type 0) (tally : P → Tally) (lent : P → Option ℕ) (aside : P → A) (d d1 d' : DrainingState) (p p1 p' : P) (before after : SinkState) (canceled : Bool) (ended : Option ℕ) (len : ℕ) (bytes : List ℕ) (owed : Owed) (result : Result Progress TryFault)
-    → d.owed ≡ None → ((call : Call) → others call → seat_of call ≢ 1) → ((h : List Call) → at p h → CallsLater at others h Read (λ found. read.Ready canceled ended len ≡ reply_to_read found) p1) → ((h : List Call) → at p1 h → lend h ≡ Some bytes)
+    → d.owed ≡ None → ((call : Call) → others call → seat_of call ≢ 1) → ((h : List Call) → at p h → CallsLater at others h (Read 0) (λ found. read.Ready canceled ended len ≡ reply_to_read 0 found) p1) → ((h : List Call) → at p1 h → lend h ≡ Some bytes)
     → PassesLend ended bytes d.drained before (Some owed) d1.drained after
     → ((h : List Call) (text : List ℕ) → at p1 h → Owes d1.drained owed h text → AdvancesTo at others refuses d1 owed h text p1 result d' p') → d'.drained ≡ d1.drained → has_failed result d' ≡ is_fault owed.end
     → aside p' ≡ aside p → Spends 0 (tally p) (tally p1) → IfOk result (λ _. Spends 0 (tally p1) (tally p')) → IfMore result (lent p' ≡ lent_for d'.owed) → IsWithin d'.owed → DrainsOnce at others refuses tally lent aside d p before result d' p' after
@@ -309,16 +309,16 @@ read_passed at others refuses tally lent aside d d1 d' p p1 p' before after canc
       cause = λ h text is passed.
           let r = reads h is in
           let found = r.found in
-          let same_lent = lent_is_held found bytes (lends (Read ∷ found) r.stands) in
+          let same_lent = lent_is_held found bytes (lends (Read 0 ∷ found) r.stands) in
           let says = ready_says found canceled ended len (sym r.so) in
           let at_found = drained_later others ours d.drained h found text r.later r.legal.0 (drained_of d h text fresh passed) in
           let l : IsLent d.drained d1.drained found text ended bytes before written drained owed = record { legal = r.legal; same = same_lent; code = says.0; passed_so_far = at_found; drains = drains; drainer = passes.3; passed = passes.4; len = passes.5 } in
-          let owes = owes_lend d.drained d1.drained found text ended bytes before written after drained owed l (lends (Read ∷ found) r.stands) passes.7 in
-          let a = advanced (Read ∷ found) (text ++ gain) r.stands owes in
-          let read_on = with_call others h found Read refl (later_goes others h found r.later) in
+          let owes = owes_lend d.drained d1.drained found text ended bytes before written after drained owed l (lends (Read 0 ∷ found) r.stands) passes.7 in
+          let a = advanced (Read 0 ∷ found) (text ++ gain) r.stands owes in
+          let read_on = with_call others h found (Read 0) refl (later_goes others h found r.later) in
           record {
             now = a.now;
-            on = later_on (OrReaders others) h (Read ∷ found) a.now read_on (advanced_goes at others refuses d1 d' owed (Read ∷ found) (text ++ gain) p1 p' result a.now a.how);
+            on = later_on (OrReaders others) h (Read 0 ∷ found) a.now read_on (advanced_goes at others refuses d1 d' owed (Read 0 ∷ found) (text ++ gain) p1 p' result a.now a.how);
             legal = a.legal;
             stands = a.stands;
             how = step_by at others refuses tally d d1 d' h found text gain p p1 p' result owed a.now fresh first a.how (λ frames none told same_d is_advanced.
@@ -350,7 +350,7 @@ read_passed at others refuses tally lent aside d d1 d' p p1 p' before after canc
     none_at stop ended place (Some end) written after owed_end at ends_owed none = let both = sym ends_owed.1 ∙ none in absurd cc
 
 pub read_broken : {P A : Type 0} (at : P → List Call → Type 0) (others : Call → Type 0) (refuses : TryFault → P → P → Type 0) (tally : P → Tally) (lent : P → Option ℕ) (aside : P → A) (d d1 : DrainingState) (p p1 : P) (before after : SinkState) (canceled : Bool) (ended : Option ℕ) (len : ℕ) (bytes : List ℕ)
-    → d.owed ≡ None → d1.owed ≡ d.owed → ((call : Call) → others call → seat_of call ≢ 1) → ((h : List Call) → at p h → CallsLater at others h Read (λ found. read.Ready canceled ended len ≡ reply_to_read found) p1) → ((h : List Call) → at p1 h → lend h ≡ Some bytes)
+    → d.owed ≡ None → d1.owed ≡ d.owed → ((call : Call) → others call → seat_of call ≢ 1) → ((h : List Call) → at p h → CallsLater at others h (Read 0) (λ found. read.Ready canceled ended len ≡ reply_to_read 0 found) p1) → ((h : List Call) → at p1 h → lend h ≡ Some bytes)
     → PassesLend ended bytes d.drained before None d1.drained after → aside p1 ≡ aside p → Spends 0 (tally p) (tally p1) → DrainsOnce at others refuses tally lent aside d p before (Ok (Ended ends.SinkFault)) d1 p1 after
 read_broken at others refuses tally lent aside d d1 p p1 before after canceled ended len bytes fresh still ours reads lends passes kept spent =
     let broken = passes.0 in
@@ -362,18 +362,18 @@ read_broken at others refuses tally lent aside d d1 p p1 before after canceled e
       cause = λ h text is passed.
           let r = reads h is in
           let found = r.found in
-          let same_lent = lent_is_held found bytes (lends (Read ∷ found) r.stands) in
+          let same_lent = lent_is_held found bytes (lends (Read 0 ∷ found) r.stands) in
           let says = ready_says found canceled ended len (sym r.so) in
           let at_found = drained_later others ours d.drained h found text r.later r.legal.0 (drained_of d h text fresh passed) in
           let fails = write_failed d.drained found text gain broken.frames broken.written r.legal.0 at_found (broke_off d.drained.job bytes (held found) ended (writer_end found) before after broken same_lent says.0 breaks) in
           record {
-            now = Read ∷ found;
-            on = with_call others h found Read refl (later_goes others h found r.later);
+            now = Read 0 ∷ found;
+            on = with_call others h found (Read 0) refl (later_goes others h found r.later);
             legal = r.legal;
             stands = r.stands;
             how =
-                subst (λ (e : DrainState). Concludes e.job e.frames e.written (Read ∷ found) (text ++ gain) ends.SinkFault) (sym passes.2)
-                (again d.drained.job _ _ found (Read ∷ found) (text ++ gain) ends.SinkFault refl refl refl (record { front = fails.front; whole = λ passed. absurd cc; verdict = λ passed. absurd cc; ended = tt; passed = λ passed. absurd cc; frames_told = fails.frames; written_told = fails.written }));
+                subst (λ (e : DrainState). Concludes e.job e.frames e.written (Read 0 ∷ found) (text ++ gain) ends.SinkFault) (sym passes.2)
+                (again d.drained.job _ _ found (Read 0 ∷ found) (text ++ gain) ends.SinkFault refl refl refl (record { front = fails.front; whole = λ passed. absurd cc; verdict = λ passed. absurd cc; ended = tt; passed = λ passed. absurd cc; frames_told = fails.frames; written_told = fails.written }));
           };
       job = ap (λ e. e.job) passes.2;
       kept = kept;

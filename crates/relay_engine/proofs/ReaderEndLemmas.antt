@@ -34,10 +34,10 @@ called options call answer holds old new h behind at says =
 same_reply : (reply reply' : ReadReply) (wake wake' : Wake) → Gave reply wake ≡ Gave reply' wake' → reply ≡ reply'
 same_reply reply reply' wake wake' e = cc
 
-pub has_read : (options : Options) (reply : ReadReply) (wake : Wake) (old new : Reader) (h : List Call) → CallsBehind options 1 (calls_of old.seat.seen) (Read ∷ []) (Gave reply wake) (calls_of new.seat.seen) → HasRead old h
-    → CallsLater HasRead (λ c. seat_of c ≢ 1) h Read (λ found. reply ≡ reply_to_read found) new
+pub has_read : (options : Options) (reply : ReadReply) (wake : Wake) (old new : Reader) (h : List Call) → CallsBehind options 1 (calls_of old.seat.seen) (Read 0 ∷ []) (Gave reply wake) (calls_of new.seat.seen) → HasRead old h
+    → CallsLater HasRead (λ c. seat_of c ≢ 1) h (Read 0) (λ found. reply ≡ reply_to_read 0 found) new
 has_read options reply wake old new h behind at =
-    called options Read (Gave reply wake) (λ found. reply ≡ reply_to_read found) old new h behind at (λ found told. same_reply reply (reply_to_read found) wake (wake_of options.pause options.resume Read found) told)
+    called options (Read 0) (Gave reply wake) (λ found. reply ≡ reply_to_read 0 found) old new h behind at (λ found told. same_reply reply (reply_to_read 0 found) wake (wake_of options.pause options.resume (Read 0) found) told)
 
 pub has_advanced : (options : Options) (c e : ℕ) (wake : Wake) (old new : Reader) (h : List Call) → CallsBehind options 1 (calls_of old.seat.seen) (Advance c e ∷ []) (Woke wake) (calls_of new.seat.seen) → HasRead old h
     → CallsLater HasRead (λ c. seat_of c ≢ 1) h (Advance c e) (λ found. Unit {0}) new

@@ -81,7 +81,7 @@ total_short [] = omega arith
 total_short (Commit runs ∷ h) =
     omega (arith, ap length (total_commit runs h), added (is_none (reader_end h)) (total h) (bytes_of runs), total_short h, length-append (written h) (bytes_of runs))
 total_short (EndWriter code ∷ h) = total_short h
-total_short (Read ∷ h) = total_short h
+total_short (Read n ∷ h) = total_short h
 total_short (Advance c e ∷ h) = total_short h
 total_short (EndReader code ∷ h) = total_short h
 total_short (CancelRead ∷ h) = total_short h

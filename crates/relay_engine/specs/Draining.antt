@@ -4,7 +4,7 @@ use Rattle.std.specs.Io.KnownBytes.{Appends}
 use Rattle.edge_core.specs.Device.{SinkState, SinkFails, Takes, HasRisen}
 use Rattle.pipe_core.specs.declared.reply.ReadReply.TheVariants as read
 use Rattle.pipe_core.specs.History.{Call, Read, Advance, seat_of}
-use Rattle.pipe_core.specs.Progress.{total, examined}
+use Rattle.pipe_core.specs.Progress.{total, examined, held}
 use Rattle.pipe_core.specs.Reads.{reply_to_read}
 use Rattle.pipe_core.specs.Legal.{IsLegal, MayFollow}
 use Rattle.pipe_shared.specs.declared.faults.TryFault.{TryFault}
@@ -64,8 +64,8 @@ OrReaders others call = (seat_of call ≡ 1) ⊎ others call
 pub record Idles (others : Call → Type 0) (d : DrainingState) (h : List Call) (gain : List ℕ) (examined_told : ℕ) (d' : DrainingState) (k : List Call) : Type 0 where
   pub found : List Call
   pub later : Later others h found
-  pub told : reply_to_read found ≡ read.Pending examined_told
-  pub is : k ≡ Read ∷ found
+  pub told : reply_to_read 0 found ≡ read.Pending examined_told (length (held found))
+  pub is : k ≡ Read 0 ∷ found
   pub none : gain ≡ []
   pub unchanged : d' ≡ d
   pub none_owed : d.owed ≡ None
@@ -76,7 +76,7 @@ pub record MovesOn (others : Call → Type 0) (d : DrainingState) (h : List Call
   pub later : Later others h found
   pub canceled : Bool
   pub len : ℕ
-  pub told : reply_to_read found ≡ read.Ready canceled None len
+  pub told : reply_to_read 0 found ≡ read.Ready canceled None len
   pub all_seen : examined k ≡ length (total found)
   pub counted : d'.drained.frames ≡ d.drained.frames + frames
 

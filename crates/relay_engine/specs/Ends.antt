@@ -15,7 +15,7 @@ pub record Reading : Type 0 where
 -- the length of what an answered read lends
 abbrev pub lent_by : ReadReply → Option ℕ
 lent_by (read.Ready canceled ended len) = Some len
-lent_by (read.Pending examined) = None
+lent_by (read.Pending examined held) = None
 
 -- A read past the limit gave a byte.
 pub record GivesOneMore (before after : SourceState) : Type 0 where

@@ -50,7 +50,7 @@ pub trait DrainPipe {
         requires may { may_call pipe.now self.old }
         requires no_lend { lent self.old ≡ None }
         ensures may { may_call pipe.now self.new }
-        ensures at { IfOk result (λ reply. (h : List Call) → at self.old h → CallsLater at others h Read (λ found. reply ≡ reply_to_read found) self.new) }
+        ensures at { IfOk result (λ reply. (h : List Call) → at self.old h → CallsLater at others h (Read 0) (λ found. reply ≡ reply_to_read 0 found) self.new) }
         ensures lent { IfOk result (λ reply. lent self.new ≡ lent_by reply) }
         ensures heard { IfErr result (λ fault. (h : List Call) → at self.old h → HearsLater at others h self.new) }
         ensures refused { IfErr result (λ fault. refuses fault self.old self.new) }

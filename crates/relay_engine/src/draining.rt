@@ -137,7 +137,7 @@ impl Draining {
     {
         match end.read(pipe) {
             Err(fault) => Err(fault),
-            Ok(ReadReply::Pending { examined }) => Ok(Progress::Idle { examined }),
+            Ok(ReadReply::Pending { examined, .. }) => Ok(Progress::Idle { examined }),
             Ok(ReadReply::Ready { ended, .. }) => match self.pass_on(ended, end, sink) {
                 Some(owed) => self.advance(owed, pipe, end),
                 None => Ok(Progress::Ended(DrainEnd::SinkFault)),

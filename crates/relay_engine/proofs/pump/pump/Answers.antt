@@ -36,14 +36,14 @@ pub loop-filling-smaller : goal.loop-filling-smaller
 loop-filling-smaller g c =
     let e = c.fill_once-ending.ensures in
     let rest = idle _ _ _ _ _ c.loop-filling.filling _ c.step.new.self _ c.step.new.end c.loop-filling.ending c.in-Ok-Idle.field-0-0 _ c.in-Ok-Idle.ensures.may c.loop-filling.invariant.pumps (rw c.in-Ok-Idle.field-0-is at c.in-Ok-Idle.ensures.step) in
-    let full = filled _ _ _ _ _ _ _ _ _ _ _ _ c.fill_once-ending.result c.never_both.ensures rest (e.fills rest.on.h (total rest.on.h) (rest_taken _ _ _ _ _ _ _ _ _ rest)) (record { options = e.options; draft = e.draft; limit = e.limit; within = e.within }) in
+    let full = filled _ _ _ _ _ _ _ _ _ _ _ _ c.fill_once-ending.result c.never_both.ensures.any rest (e.fills rest.on.h (total rest.on.h) (rest_taken _ _ _ _ _ _ _ _ _ rest)) (record { options = e.options; draft = e.draft; limit = e.limit; within = e.within }) in
     rest_less c.loop-filling.filling c.loop-filling.pipe c.loop-filling.ending _ rest.none_yet full.less
 
 pub loop-filling-preserved : goal.loop-filling-preserved
 loop-filling-preserved g c =
     let e = c.fill_once-ending.ensures in
     let rest = idle _ _ _ _ _ c.loop-filling.filling _ c.step.new.self _ c.step.new.end c.loop-filling.ending c.in-Ok-Idle.field-0-0 _ c.in-Ok-Idle.ensures.may c.loop-filling.invariant.pumps (rw c.in-Ok-Idle.field-0-is at c.in-Ok-Idle.ensures.step) in
-    let full = filled _ _ _ _ _ _ _ _ _ _ _ _ c.fill_once-ending.result c.never_both.ensures rest (e.fills rest.on.h (total rest.on.h) (rest_taken _ _ _ _ _ _ _ _ _ rest)) (record { options = e.options; draft = e.draft; limit = e.limit; within = e.within }) in
+    let full = filled _ _ _ _ _ _ _ _ _ _ _ _ c.fill_once-ending.result c.never_both.ensures.any rest (e.fills rest.on.h (total rest.on.h) (rest_taken _ _ _ _ _ _ _ _ _ rest)) (record { options = e.options; draft = e.draft; limit = e.limit; within = e.within }) in
     record {
       pumps = full.on;
       attended = rw (e.gone) c.in-Ok-Idle.ensures.may;

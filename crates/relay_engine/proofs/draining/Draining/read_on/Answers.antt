@@ -10,7 +10,7 @@ pub pass_on-requires-clause-known : goal.pass_on-requires-clause-known
 pass_on-requires-clause-known g c =
     let own = c.requires.own in
     let r = c.in-Ok-Ready.ensures.at own.0 own.2 in
-    (Read ∷ r.found, r.stands, r.legal, known_lend c.args.self.now.drained r.found own.1 r.legal.0 (drained_later g.P.DrainPipe.others g.met.P.DrainPipe.not_ours c.args.self.now.drained own.0 r.found own.1 r.later r.legal.0 own.3))
+    (Read 0 ∷ r.found, r.stands, r.legal, known_lend c.args.self.now.drained r.found own.1 r.legal.0 (drained_later g.P.DrainPipe.others g.met.P.DrainPipe.not_ours c.args.self.now.drained own.0 r.found own.1 r.later r.legal.0 own.3))
 
 pub returns-in-Err-clause-step : goal.returns-in-Err-clause-step
 returns-in-Err-clause-step g c =
@@ -20,7 +20,7 @@ returns-in-Err-clause-step g c =
 pub returns-in-Ok-Pending-clause-step : goal.returns-in-Ok-Pending-clause-step
 returns-in-Ok-Pending-clause-step g c =
     let e = c.in-Ok-Pending.ensures in
-    read_pending _ _ _ _ _ _ c.args.self.now c.args.end.now c.read.new.self _ c.in-Ok-Pending.examined c.requires.fresh g.met.P.DrainPipe.not_ours (λ h is. as_reply _ _ h _ _ c.read.new.self c.in-Ok-Pending.field-0-is (e.at h is)) (e.lent ∙ ap (λ r. lent_by r) c.in-Ok-Pending.field-0-is) e.aside e.tally
+    read_pending _ _ _ _ _ _ c.args.self.now c.args.end.now c.read.new.self _ c.in-Ok-Pending.examined _ c.requires.fresh g.met.P.DrainPipe.not_ours (λ h is. as_reply _ _ h _ _ c.read.new.self c.in-Ok-Pending.field-0-is (e.at h is)) (e.lent ∙ ap (λ r. lent_by r) c.in-Ok-Pending.field-0-is) e.aside e.tally
 
 pub returns-in-Some-clause-step : goal.returns-in-Some-clause-step
 returns-in-Some-clause-step g c =
