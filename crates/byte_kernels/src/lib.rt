@@ -13,8 +13,6 @@ mod range;
 mod scan;
 mod search;
 mod table;
-#[cfg(test)]
-mod tests;
 
 pub use byte_set::ByteSet;
 pub use cases::{count_cases, front_cases, scan_cases};

@@ -23,8 +23,3 @@ pub use no_doors::NoDoors;
 pub use std_edges::{ReadEdge, WriteEdge};
 pub use whole_source::WholeSource;
 pub use writing::{BrokenOff, write_all};
-
-#[cfg(test)]
-mod door_tests;
-#[cfg(test)]
-mod tests;

@@ -8,8 +8,6 @@ mod laws;
 mod lines;
 mod place;
 mod spell;
-#[cfg(test)]
-mod tests;
 
 pub use front::{Front, whole_front};
 pub use laws::front_is_translated;

@@ -1,4 +1,5 @@
-//! What the pipes answer on known runs: a control and the pipe over one buffer, the pipe of two threads, and that of one.
+//! What the pipes and what they stand on answer on known runs: segments, turns, a control and the pipe over one buffer, the pipe of
+//! two threads, and that of one.
 #![tactic(auto)]
 
 #[cfg(test)]
@@ -14,4 +15,8 @@ mod player;
 #[cfg(test)]
 mod replies;
 #[cfg(test)]
+mod segments;
+#[cfg(test)]
 mod shared;
+#[cfg(test)]
+mod turns;

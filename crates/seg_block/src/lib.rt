@@ -15,6 +15,3 @@ pub use block::Block;
 pub use front::{FrontEnd, FrontNote, SegFront};
 pub use many::own_blocks;
 pub use tail::{Mark, SegTail, TailEnd, TailNote};
-
-#[cfg(test)]
-mod tests;

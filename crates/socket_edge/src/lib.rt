@@ -3,8 +3,6 @@
 
 mod doors;
 mod endpoint;
-#[cfg(test)]
-mod tests;
 
 pub use doors::RealDoors;
 pub use endpoint::Endpoint;

@@ -7,8 +7,6 @@ mod opening;
 mod rule;
 mod seat;
 mod stands;
-#[cfg(test)]
-mod tests;
 mod turns;
 mod view;
 

@@ -1,8 +1,10 @@
+//! The two ends of a segment, on one thread and on two.
+
 ghost use Rattle.std.specs.Prelude.{◌≡◌};
 ghost use mathlib.Core.List.{IsPrefix};
 ghost use Rattle.seg_block.specs.Words.{SameTail, SameFront, tail_part, front_part, published, seen};
 
-use super::*;
+use seg_block::{Block, FrontEnd, SegFront, SegTail, TailEnd, own_blocks};
 use std::sync::Wait;
 use std::test::Fail;
 use std::thread;

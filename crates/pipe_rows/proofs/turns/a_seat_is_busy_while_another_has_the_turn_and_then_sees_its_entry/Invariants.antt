@@ -1,5 +1,5 @@
 use Rattle.std.proofs.Common.{[], ◌∷◌, take}
-use Rattle.turn_cell.proofs.tests.a_seat_is_busy_while_another_has_the_turn_and_then_sees_its_entry.Given as goal
+use Rattle.pipe_rows.proofs.turns.a_seat_is_busy_while_another_has_the_turn_and_then_sees_its_entry.Given as goal
 
 -- so many entries as the call adds
 abbrev pub ghosts-put : goal.ghosts-put

@@ -1,6 +1,9 @@
 //! What the searches answer on known inputs.
 
-use crate::*;
+use byte_kernels::{
+    ByteSet, common_front, count_of, index_in_range, index_near, index_not_in_range, index_of_any,
+    index_of_any_except, last_index_of_any, lowest, marks_near, marks_near_64, plain,
+};
 use std::process::Abort;
 use std::test::Fail;
 

@@ -1,7 +1,9 @@
+//! Doors in memory, and doors that open nothing.
+
 ghost use Rattle.std.specs.Prelude.{◌≡◌, IfOk};
 ghost use Rattle.edge_core.specs.MemDoors.{IsFresh, name_of};
 
-use super::*;
+use edge_core::{DoorError, Doors, Failed, MemDoors, MemSink, MemSource, NoDoors, Sink, Source};
 use std::alloc::{AllocError, Global};
 use std::fmt::Write as _;
 use std::test::Fail;

@@ -1,7 +1,7 @@
 //! Files in the system's folder for temporary ones, and connections over loopback.
 
-use crate::RealDoors;
 use edge_core::{DoorError, Doors, Sink, Source};
+use socket_edge::RealDoors;
 use std::net::TcpListener;
 use std::test::Fail;
 use std::{env, fs, io, process};

@@ -1,7 +1,7 @@
 use Rattle.std.proofs.Common.{◌≡◌, [], ◌∷◌, map, refl}
 use Rattle.std.proofs.lemmas.List.Elements.{All-nil, All-push, All-same}
 use Rattle.edge_core.specs.MemDoors.{IsFresh, name_of}
-use Rattle.edge_core.proofs.door_tests.two_names.Goals as goal
+use Rattle.base_rows.proofs.doors.two_names.Goals as goal
 
 pub make-requires-clause-named_fresh : goal.make-requires-clause-named_fresh
 make-requires-clause-named_fresh c =

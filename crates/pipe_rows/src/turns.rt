@@ -4,11 +4,11 @@ ghost use Rattle.std.specs.Prelude.{◌≡◌, ◌+◌, length, MatchBool};
 ghost use Rattle.std.specs.Thread.{IsSync};
 ghost use Rattle.turn_cell.specs.Seat.{IsIdle, IsOf};
 
-use super::*;
 use std::marker::Brand;
 use std::sync::Wait;
 use std::test::Fail;
 use std::thread::{Threads, join};
+use turn_cell::{Busy, Stands, TurnCell, TurnSeat};
 
 /// The number of entries of its history, and which counter it is.
 #[derive(Drop)]

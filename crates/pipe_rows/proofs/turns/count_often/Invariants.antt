@@ -1,6 +1,6 @@
 use Rattle.std.proofs.Common.{◌≡◌}
 use Rattle.turn_cell.specs.Seat.{IsIdle}
-use Rattle.turn_cell.proofs.tests.count_often.Given as goal
+use Rattle.pipe_rows.proofs.turns.count_often.Given as goal
 
 abbrev pub invariant-loop : goal.invariant-loop
 invariant-loop g l = IsIdle l.cell l.seat × (l.seat.number ≡ l.fn.seat.number)

@@ -1,6 +1,6 @@
 //! What stands at the front of known inputs.
 
-use crate::*;
+use frame_fronts::{spell_front, whole_front};
 use frame_model::Framing;
 use std::process::Abort;
 

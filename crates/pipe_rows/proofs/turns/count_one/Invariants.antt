@@ -1,5 +1,5 @@
 use Rattle.std.proofs.Common.{[], ◌∷◌, take}
-use Rattle.turn_cell.proofs.tests.count_one.Given as goal
+use Rattle.pipe_rows.proofs.turns.count_one.Given as goal
 
 -- so many entries as the call adds
 abbrev pub ghosts-put : goal.ghosts-put
