@@ -1,7 +1,8 @@
 //! Devices in memory, and readers and writers as devices, call by call.
 
 use edge_core::{
-    BrokenOff, Failed, MemSink, MemSource, ReadEdge, Sink, Source, WholeSource, WriteEdge, write_all,
+    BrokenOff, Failed, MemSink, MemSource, ReadEdge, Sink, Source, WholeSource, WriteEdge,
+    write_all,
 };
 use std::alloc::{AllocError, Global};
 use std::io::{self, ErrorKind, Read, Write};

@@ -129,7 +129,7 @@ concludes_later job frames written h text end (call ∷ calls) others legal c =
 ends_behind : (job : Job) (frames written : ℕ) (h : List Call) (text : List ℕ) (end : DrainEnd) (c e : ℕ) (call : Call) → seat_of call ≢ 1 → IsLegal (call ∷ h) → Concludes job frames written (Advance c e ∷ h) text end → Concludes job frames written (Advance c e ∷ call ∷ h) text end
 ends_behind job frames written h text end c e (Commit runs) other legal so = concludes_longer job frames written (Advance c e ∷ h) (Advance c e ∷ Commit runs ∷ h) text _ end (none_is (writer_end h) legal.1.0) (total_commit runs h) refl so
 ends_behind job frames written h text end c e (EndWriter code) other legal so = concludes_longer job frames written (Advance c e ∷ h) (Advance c e ∷ EndWriter code ∷ h) text [] end (none_is (writer_end h) legal.1) (sym (append-nil (total h))) refl so
-ends_behind job frames written h text end c e Read other legal so = absurd (other refl)
+ends_behind job frames written h text end c e (Read n) other legal so = absurd (other refl)
 ends_behind job frames written h text end c e (Advance c' e') other legal so = absurd (other refl)
 ends_behind job frames written h text end c e (EndReader code) other legal so = absurd (other refl)
 ends_behind job frames written h text end c e CancelRead other legal so = again job frames written (Advance c e ∷ h) (Advance c e ∷ CancelRead ∷ h) text end refl refl refl so
