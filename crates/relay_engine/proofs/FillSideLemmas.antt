@@ -43,46 +43,14 @@ taken_on limit bytes taken (Ok (filled.Paused n)) start before after within long
 taken_on limit bytes taken (Ok (filled.Full full)) start before after within long so (none, gives) =
     subst (λ (x : List ℕ). Gives start (bytes ++ x) after × (length (bytes ++ x) ≤ limit)) (sym none) (record { given = Consumes-trans _ _ _ _ _ so.0.given gives.given; unfailed = gives.unfailed ∙ so.0.unfailed }, omega (arith, so.1, length-append bytes []))
 taken_on limit bytes taken (Err fault) start before after within long so loses = (record { given = Consumes-trans _ _ _ _ _ so.0.given loses.given; unfailed = loses.unfailed ∙ so.0.unfailed }, within)
-taken_on limit bytes taken (Ok (filled.Ended taking.End)) start before after within long so (none, gives, ended) = took_nothing limit bytes taken taking.End start after none (record {
-  dropped = [];
-  dropping = refl;
-  given = Consumes-trans _ _ _ _ _ so.0.given gives.given;
-  within = so.1;
-  end = λ is. ended;
-  long = λ is. absurd cc;
-  fault = λ is. absurd cc;
-  unfailed = λ is. gives.unfailed ∙ so.0.unfailed;
-})
-taken_on limit bytes taken (Ok (filled.Ended taking.Fault)) start before after within long so (none, fails) = took_nothing limit bytes taken taking.Fault start after none (record {
-  dropped = [];
-  dropping = refl;
-  given = rw (append-nil bytes) (Consumes-kept start.left before.left after.left bytes so.0.given fails.kept);
-  within = so.1;
-  end = λ is. absurd cc;
-  long = λ is. absurd cc;
-  fault = λ is. rw (← so.0.unfailed) fails.risen;
-  unfailed = λ other. absurd (other refl);
-})
-taken_on limit bytes taken (Ok (filled.Ended taking.Long)) start before after within long so (none, more) = took_nothing limit bytes taken taking.Long start after none (record {
-  dropped = more.dropped;
-  dropping = more.one;
-  given = Consumes-trans _ _ _ _ _ so.0.given more.given.given;
-  within = so.1;
-  end = λ is. absurd cc;
-  long = λ is. omega (arith, long refl, length-append bytes taken, ap length none);
-  fault = λ is. absurd cc;
-  unfailed = λ is. more.given.unfailed ∙ so.0.unfailed;
-})
-taken_on limit bytes taken (Ok (filled.Ended (taking.Gone code))) start before after within long so gives = record {
-  dropped = [];
-  dropping = refl;
-  given = rw (append-nil (bytes ++ taken)) (Consumes-trans _ _ _ _ _ so.0.given gives.given);
-  within = within;
-  end = λ is. absurd cc;
-  long = λ is. absurd cc;
-  fault = λ is. absurd cc;
-  unfailed = λ is. gives.unfailed ∙ so.0.unfailed;
-}
+taken_on limit bytes taken (Ok (filled.Ended taking.End)) start before after within long so (none, gives, ended) =
+    took_nothing limit bytes taken taking.End start after none (record { dropped = []; dropping = refl; given = Consumes-trans _ _ _ _ _ so.0.given gives.given; within = so.1; end = λ is. ended; long = λ is. absurd cc; fault = λ is. absurd cc; unfailed = λ is. gives.unfailed ∙ so.0.unfailed })
+taken_on limit bytes taken (Ok (filled.Ended taking.Fault)) start before after within long so (none, fails) =
+    took_nothing limit bytes taken taking.Fault start after none (record { dropped = []; dropping = refl; given = rw (append-nil bytes) (Consumes-kept start.left before.left after.left bytes so.0.given fails.kept); within = so.1; end = λ is. absurd cc; long = λ is. absurd cc; fault = λ is. rw (← so.0.unfailed) fails.risen; unfailed = λ other. absurd (other refl) })
+taken_on limit bytes taken (Ok (filled.Ended taking.Long)) start before after within long so (none, more) =
+    took_nothing limit bytes taken taking.Long start after none (record { dropped = more.dropped; dropping = more.one; given = Consumes-trans _ _ _ _ _ so.0.given more.given.given; within = so.1; end = λ is. absurd cc; long = λ is. omega (arith, long refl, length-append bytes taken, ap length none); fault = λ is. absurd cc; unfailed = λ is. more.given.unfailed ∙ so.0.unfailed })
+taken_on limit bytes taken (Ok (filled.Ended (taking.Gone code))) start before after within long so gives =
+    record { dropped = []; dropping = refl; given = rw (append-nil (bytes ++ taken)) (Consumes-trans _ _ _ _ _ so.0.given gives.given); within = within; end = λ is. absurd cc; long = λ is. absurd cc; fault = λ is. absurd cc; unfailed = λ is. gives.unfailed ∙ so.0.unfailed }
 
 so_far_as : (limit limit' : ℕ) (bytes bytes' : List ℕ) (ending ending' : Option FillEnd) (start after : SourceState) → limit' ≡ limit → bytes' ≡ bytes → ending' ≡ ending → TakenSoFar limit bytes ending start after → TakenSoFar limit' bytes' ending' start after
 so_far_as limit limit' bytes bytes' ending ending' start after same_limit same_bytes same_ending so =

@@ -25,7 +25,7 @@ use Rattle.relay_engine.proofs.LaterLemmas.{later_as, later_here, later_on, late
 
 -- ---- what others do
 
-written_under : (others : Call → Type 0) → ((call : Call) → others call → seat_of call ≢ 0) → (more h : List Call) → AllByRecursion others more → written (more ++ h) ≡ written h
+pub written_under : (others : Call → Type 0) → ((call : Call) → others call → seat_of call ≢ 0) → (more h : List Call) → AllByRecursion others more → written (more ++ h) ≡ written h
 written_under others apart [] h all = refl
 written_under others apart (Commit runs ∷ more) h all = absurd (apart (Commit runs) all.0 refl)
 written_under others apart (EndWriter code ∷ more) h all = written_under others apart more h all.1
@@ -239,6 +239,12 @@ module _ {P F : Type 0} (at : P → List Call → Type 0) (others : Call → Typ
 
   -- ---- what a step has taken
 
+  -- what the last call met, where no commit is told
+  abbrev pub MetBy : Result (Filled F) TryFault → P → Type 0
+  MetBy (Ok (Full full)) p' = (p : P) × is_full full p p'
+  MetBy (Err fault) p' = (p : P) × refuses fault p p'
+  MetBy answer p' = Unit {0}
+
   pub record Took (answer : Result (Filled F) TryFault) (f : FillingState) (p : P) (before : SourceState) (f' : FillingState) (p' : P) (after : SourceState) (h : List Call) (bytes : List ℕ) : Type 0 where
     pub taken : List ℕ
     pub now : List Call
@@ -246,6 +252,7 @@ module _ {P F : Type 0} (at : P → List Call → Type 0) (others : Call → Typ
     pub holds : HasTaken at writer f' p' now (bytes ++ taken)
     pub loses : LosesBy answer before taken after
     pub ends : EndsFor options answer f' now
+    pub met : MetBy answer p'
     pub read : TellsOwed at others writer refuses options answer f p before f' p' after h bytes ⊎ (tells_commit answer ≡ true → 0 < length taken)
 
   pub took : (f f' : FillingState) (p p' : P) (s s' : SourceState) (answer : Result (Filled F) TryFault) (h : List Call) (bytes : List ℕ) → FillsOn at others writer refuses options is_full f p s answer f' p' s' h bytes → Took answer f p s f' p' s' h bytes
@@ -258,41 +265,43 @@ module _ {P F : Type 0} (at : P → List Call → Type 0) (others : Call → Typ
   ]
     where
       -- no byte was taken, and no commit made
-      still : (k : List Call) (a : Result (Filled F) TryFault) → Later (OrCommits others) h k → (kept : Keeps at others writer f' p' k bytes) → LosesBy a s [] s' → EndsFor options a f' kept.found → tells_commit a ≡ false → Took a f p s f' p' s' h bytes
-      still k a later kept loses ends none = record {
+      still : (k : List Call) (a : Result (Filled F) TryFault) → Later (OrCommits others) h k → (kept : Keeps at others writer f' p' k bytes) → LosesBy a s [] s' → EndsFor options a f' kept.found → MetBy a p' → tells_commit a ≡ false → Took a f p s f' p' s' h bytes
+      still k a later kept loses ends met none = record {
         taken = [];
         now = kept.found;
         later = later_on (OrCommits others) h k kept.found later (later_or_commits others k kept.found kept.later);
         holds = subst (HasTaken at writer f' p' kept.found) (sym (append-nil bytes)) kept.holds;
         loses = loses;
         ends = ends;
+        met = met;
         read = inr (λ told. let both = sym none ∙ told in absurd cc);
       }
 
       -- a commit of the draft was made
-      by_commit : (q : P) (k : List Call) (taken : List ℕ) (a : Result (Filled F) TryFault) (reply : FlushReply) → Later (OrCommits others) h k → (c : Commits at others writer options reply q f' p' k (bytes ++ taken)) → LosesBy a s taken s' → EndsFor options a f' (Commit (writer q).draft ∷ c.found)
+      by_commit : (q : P) (k : List Call) (taken : List ℕ) (a : Result (Filled F) TryFault) (reply : FlushReply) → Later (OrCommits others) h k → (c : Commits at others writer options reply q f' p' k (bytes ++ taken)) → LosesBy a s taken s' → EndsFor options a f' (Commit (writer q).draft ∷ c.found) → MetBy a p'
           → (TellsOwed at others writer refuses options a f p s f' p' s' h bytes ⊎ (tells_commit a ≡ true → 0 < length taken)) → Took a f p s f' p' s' h bytes
-      by_commit q k taken a reply later c loses ends read = record {
+      by_commit q k taken a reply later c loses ends met read = record {
         taken = taken;
         now = Commit (writer q).draft ∷ c.found;
         later = later_on (OrCommits others) h k (Commit (writer q).draft ∷ c.found) later (later_commit others k c.found (writer q).draft c.later);
         holds = c.holds;
         loses = loses;
         ends = ends;
+        met = met;
         read = read;
       }
 
       -- or refused
       settled : (q : P) (k : List Call) (taken : List ℕ) (a : Result (Filled F) TryFault) → Later (OrCommits others) h k → Gives s taken s' → (TellsOwed at others writer refuses options a f p s f' p' s' h bytes ⊎ (tells_commit a ≡ true → 0 < length taken)) → Settles at others writer refuses options a q f' p' k (bytes ++ taken)
           → Took a f p s f' p' s' h bytes
-      settled q k taken (Ok (Moved n)) later given read (is, (canceled, c)) = by_commit q k taken (Ok (Moved n)) (flush.Ready canceled None) later c given tt read
-      settled q k taken (Ok (Paused unexamined)) later given read c = by_commit q k taken (Ok (Paused unexamined)) (flush.Pending unexamined) later c given tt read
+      settled q k taken (Ok (Moved n)) later given read (is, (canceled, c)) = by_commit q k taken (Ok (Moved n)) (flush.Ready canceled None) later c given tt tt read
+      settled q k taken (Ok (Paused unexamined)) later given read c = by_commit q k taken (Ok (Paused unexamined)) (flush.Pending unexamined) later c given tt tt read
       settled q k taken (Ok (Full full)) later given read never = absurd never
       settled q k taken (Ok (Ended taking.End)) later given read never = absurd never
       settled q k taken (Ok (Ended taking.Fault)) later given read never = absurd never
       settled q k taken (Ok (Ended taking.Long)) later given read never = absurd never
       settled q k taken (Ok (Ended (taking.Gone code))) later given read (canceled, c) =
-          by_commit q k taken (Ok (Ended (taking.Gone code))) (flush.Ready canceled (Some code)) later c given (canceled, (writer q).draft, c.found, refl, c.replied) read
+          by_commit q k taken (Ok (Ended (taking.Gone code))) (flush.Ready canceled (Some code)) later c given (canceled, (writer q).draft, c.found, refl, c.replied) tt read
       settled q k taken (Err fault) later given read (refused, kept) = record {
         taken = taken;
         now = kept.found;
@@ -300,6 +309,7 @@ module _ {P F : Type 0} (at : P → List Call → Type 0) (others : Call → Typ
         holds = kept.holds;
         loses = given;
         ends = tt;
+        met = (q, refused);
         read = read;
       }
 
@@ -310,10 +320,10 @@ module _ {P F : Type 0} (at : P → List Call → Type 0) (others : Call → Typ
       takes : (f1 : FillingState) (p1 : P) (k : List Call) (a : Result (Filled F) TryFault) → Later (OrCommits others) h k → TakesBy at others writer refuses options is_full a f1 p1 s f' p' s' k bytes → Took a f p s f' p' s' h bytes
       takes f1 p1 k (Ok (Moved n)) later r = by_read f1 p1 k (Ok (Moved n)) later r
       takes f1 p1 k (Ok (Paused unexamined)) later r = by_read f1 p1 k (Ok (Paused unexamined)) later r
-      takes f1 p1 k (Ok (Full full)) later (is, same, kept) = still k (Ok (Full full)) later kept (refl, gives_nothing s s' same) tt refl
-      takes f1 p1 k (Ok (Ended taking.End)) later (granted, (gives, ended), kept) = still k (Ok (Ended taking.End)) later kept (refl, gives, ended) tt refl
-      takes f1 p1 k (Ok (Ended taking.Fault)) later (granted, fails, kept) = still k (Ok (Ended taking.Fault)) later kept (refl, fails) tt refl
-      takes f1 p1 k (Ok (Ended taking.Long)) later (granted, (at_limit, more), kept) = still k (Ok (Ended taking.Long)) later kept (refl, more) at_limit refl
+      takes f1 p1 k (Ok (Full full)) later (is, same, kept) = still k (Ok (Full full)) later kept (refl, gives_nothing s s' same) tt (p1, is) refl
+      takes f1 p1 k (Ok (Ended taking.End)) later (granted, (gives, ended), kept) = still k (Ok (Ended taking.End)) later kept (refl, gives, ended) tt tt refl
+      takes f1 p1 k (Ok (Ended taking.Fault)) later (granted, fails, kept) = still k (Ok (Ended taking.Fault)) later kept (refl, fails) tt tt refl
+      takes f1 p1 k (Ok (Ended taking.Long)) later (granted, (at_limit, more), kept) = still k (Ok (Ended taking.Long)) later kept (refl, more) at_limit tt refl
       takes f1 p1 k (Ok (Ended (taking.Gone code))) later r = by_read f1 p1 k (Ok (Ended (taking.Gone code))) later r
-      takes f1 p1 k (Err fault) later (inl (refused, same, kept)) = still k (Err fault) later kept (gives_nothing s s' same) tt refl
+      takes f1 p1 k (Err fault) later (inl (refused, same, kept)) = still k (Err fault) later kept (gives_nothing s s' same) tt (p1, refused) refl
       takes f1 p1 k (Err fault) later (inr r) = by_read f1 p1 k (Err fault) later r

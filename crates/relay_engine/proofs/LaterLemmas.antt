@@ -1,8 +1,19 @@
--- How histories go on, one behind the other.
+-- What an end of a pipe comes to by calls: how histories go on, one behind the other, and how often it has turned to its pipe.
 use Rattle.std.specs.List.{AllByRecursion}
-use Rattle.std.proofs.Common.{◌≡◌, ℕ, List, [], ◌∷◌, ◌++◌, Option, Some, None, IsNone, refl, sym, ap, ◌∙◌, append_assoc}
+use Rattle.std.specs.Prelude.{option_map}
+use Rattle.std.proofs.Common.{◌≡◌, ℕ, List, [], ◌∷◌, ◌++◌, Option, Some, None, IsNone, refl, sym, ap, ◌∙◌, append_assoc, length, reverse, arith, ◌*◌}
+use Rattle.std.proofs.lemmas.List.{length-append}
 use Rattle.pipe_core.specs.History.{Call}
+use Rattle.turn_cell.specs.Seat.{after_find}
+use Rattle.pipe_shared.specs.Log.{IsLawful, calls_of}
+use Rattle.pipe_core.specs.Answers.{Answer}
+use Rattle.pipe_shared.specs.declared.options.Options.{Options}
+use Rattle.pipe_shared.specs.Turns.{Makes, Seat, Wins}
+use Rattle.pipe_shared.specs.Ends.{IsEnd}
+use Rattle.pipe_shared.specs.Heard.{Hears}
+use Rattle.pipe_shared.proofs.HeardLemmas.{won}
 use Rattle.relay_engine.specs.Later.{Later}
+use Rattle.relay_engine.specs.Tally.{Spends, tally_of}
 
 pub none_is : (o : Option ℕ) → IsNone o → o ≡ None
 none_is None none = refl
@@ -12,11 +23,15 @@ pub none_of : {A : Type 0} (o : Option A) → ((x : A) → o ≡ Some x → ⊥)
 none_of None never = refl
 none_of (Some x) never = absurd (never x refl)
 
+pub none_mapped : {A B : Type 0} (f : A → B) (o : Option A) → option_map f o ≡ None → o ≡ None
+none_mapped f None is = refl
+none_mapped f (Some it) is = absurd cc
+
 pub all_as : (some others : Call → Type 0) → ((call : Call) → some call → others call) → (calls : List Call) → AllByRecursion some calls → AllByRecursion others calls
 all_as some others are [] all = tt
 all_as some others are (call ∷ calls) all = (are call all.0, all_as some others are calls all.1)
 
-pub all_append : (others : Call → Type 0) (xs ys : List Call) → AllByRecursion others xs → AllByRecursion others ys → AllByRecursion others (xs ++ ys)
+all_append : (others : Call → Type 0) (xs ys : List Call) → AllByRecursion others xs → AllByRecursion others ys → AllByRecursion others (xs ++ ys)
 all_append others [] ys first second = second
 all_append others (x ∷ xs) ys first second = (first.0, all_append others xs ys first.1 second)
 
@@ -35,3 +50,19 @@ later_on others h k m first second = record {
 
 pub later_with : (others : Call → Type 0) (h k : List Call) (call : Call) → others call → Later others h k → Later others h (call ∷ k)
 later_with others h k call is later = record { between = call ∷ later.between; all = (is, later.all); is = ap (λ (x : List Call). call ∷ x) later.is }
+
+-- what an end that has made no entry has seen is others' calls
+pub heard_all : (number : ℕ) (seat : Seat) → IsEnd number seat → seat.own ≡ [] → IsLawful seat.seen → Hears number [] (calls_of seat.seen)
+heard_all number seat end none lawful =
+    won number (record seat { seen = []; own = [] }) (record (after_find (2 * length seat.seen) seat) { own = [] })
+    (record { numbered = end.numbered; idle = end.idle; own = refl })
+    (record { after = refl; begins = (seat.seen, refl); own = rw end.numbered (end.own ∙ none); lawful = lawful })
+
+-- the one exchange won the turn
+pub wins_spends : (old new : Seat) → Wins old new → Spends 1 (tally_of old) (tally_of new)
+wins_spends old new wins = omega (arith, ap (λ (s : Seat). s.exchanges) wins.after, ap (λ (s : Seat). length s.own) wins.after)
+
+-- and one entry was made
+pub makes_spends : (options : Options) (old new : Seat) (calls : List Call) (call : Call) (answer : Answer) → calls ≡ call ∷ [] → Makes options old calls answer new → Spends 0 (tally_of old) (tally_of new)
+makes_spends options old new calls call answer one makes =
+    omega (arith, wins_spends old makes.found makes.wins, ap (λ (s : Seat). s.exchanges) makes.after, ap (λ (s : Seat). length s.own) makes.after, length-append makes.found.own (reverse calls), ap (λ (l : List Call). length (reverse l)) one)

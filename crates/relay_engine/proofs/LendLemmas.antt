@@ -5,7 +5,7 @@ use Rattle.std.specs.Prelude.{is_none, max, unwrap_or}
 use Rattle.std.proofs.lemmas.Grind.{flat_map-append}
 use mathlib.Core.List.{IsPrefix}
 use Rattle.std.proofs.lemmas.Bool.Decides.{Decides-eqb}
-use Rattle.std.proofs.lemmas.Bool.{cases_lt}
+use Rattle.std.proofs.lemmas.Bool.{cases_Bool, cases_lt}
 use Rattle.std.proofs.lemmas.List.{length-append, length-drop, length-take, take-append-drop, drop-append-le, drop-drop, take-append-le, take_all}
 use Rattle.frame_model.specs.declared.framing.Framing.{Framing}
 use Rattle.frame_model.specs.declared.framing.Framing.TheVariants.{Len4, Len2, Line}
@@ -26,13 +26,15 @@ use Rattle.pipe_core.specs.Lends.{lend}
 use Rattle.pipe_core.specs.Legal.{IsLegal}
 use Rattle.span_seq.proofs.ScanLemmas.{at_none, position_past, stopped}
 use Rattle.std.proofs.lemmas.List.Sums.{prefix_len-le-length}
-use Rattle.pipe_core.proofs.OrderLemmas.{ordered, pending_tells, plain_seen_all, total_commit}
+use Rattle.pipe_core.proofs.OrderLemmas.{ordered, pending_tells, plain_seen_all, read_lends, total_commit}
 use Rattle.edge_core.specs.Device.{SinkState}
 use Rattle.relay_engine.specs.Frames.{Breaks, Drains, Passes, StopsAt, capped, verdict_of}
 use Rattle.relay_engine.specs.declared.frames.LendPassed.{LendPassed}
 use Rattle.relay_engine.specs.declared.frames.Broken.{Broken}
 use Rattle.relay_engine.specs.Drainer.{DrainState, IsDrained, is_success, is_whole, looked_at, translated}
 use Rattle.relay_engine.specs.Passing.{IsKnown, added, end_at}
+use Rattle.relay_engine.specs.Sides.{Concludes}
+use Rattle.relay_engine.specs.declared.drain_end.DrainEnd.TheVariants as ends
 use Rattle.relay_engine.specs.declared.frames.Stop.{Stop}
 use Rattle.relay_engine.specs.declared.frames.Stop.TheVariants as stops
 use Rattle.relay_engine.proofs.FrameLemmas.{passed_text, passes_more, passes_within}
@@ -42,12 +44,8 @@ use Rattle.relay_engine.proofs.LaterLemmas.{none_is}
 
 -- ---- what is said by a reply
 
-lent_if : (b : Bool) (bytes lent : List ℕ) → cond b (Some bytes) None ≡ Some lent → lent ≡ bytes
-lent_if true bytes lent e = cc
-lent_if false bytes lent e = absurd cc
-
 pub lent_is_held : (h : List Call) (lent : List ℕ) → lend (Read 0 ∷ h) ≡ Some lent → lent ≡ held h
-lent_is_held h lent e = lent_if (read_is_ready 0 h) (held h) lent e
+lent_is_held h lent e = read_lends (read_is_ready 0 h) (held h) lent e
 
 ready_if : (b canceled canceled' : Bool) (ended ended' : Option ℕ) (len len' n : ℕ) → cond b (read.Ready canceled ended len) (read.Pending n len) ≡ read.Ready canceled' ended' len' → (ended' ≡ ended) × (len' ≡ len)
 ready_if true canceled canceled' ended ended' len len' n e = (cc, cc)
@@ -207,21 +205,17 @@ success_is (Some code) yes_so = ap (λ (k : ℕ). Some k) ((Decides-eqb code 0).
 failure_is : (code : ℕ) → is_success (Some code) ≡ false → code ≢ 0
 failure_is code not_so zero_code = let same = (Decides-eqb code 0).1 zero_code in let both = rw same at not_so in absurd cc
 
-bool_cases : (b : Bool) → (b ≡ true) ⊎ (b ≡ false)
-bool_cases true = inl refl
-bool_cases false = inr refl
-
 pub some_is : {A : Type 0} (a b : A) → Some a ≡ Some b → a ≡ b
 some_is a b e = ap (λ o. unwrap_or o a) e
 
 pub at_end_so : (job : Job) (ended : Option ℕ) (rest : List ℕ) (v : Verdict) → translation job rest (is_success ended) ≡ record { text = []; verdict = v } → ((translation job rest false).verdict ≢ v) → ended ≡ Some 0
-at_end_so job ended rest v told never = elim (bool_cases (is_success ended)) [
+at_end_so job ended rest v told never = elim (cases_Bool (is_success ended)) [
   | inl whole ↦ success_is ended whole
   | inr part ↦ absurd (never (ap (λ t. t.verdict) (sym (ap (λ (b : Bool). translation job rest b) part) ∙ told)))
 ]
 
 pub open_so : (job : Job) (code : ℕ) (rest : List ℕ) → translation job rest (is_success (Some code)) ≡ record { text = []; verdict = Open } → code ≢ 0
-open_so job code rest told = elim (bool_cases (is_success (Some code))) [
+open_so job code rest told = elim (cases_Bool (is_success (Some code))) [
   | inl whole ↦ absurd (not_open job.input job.output job.max rest (ap (λ t. t.verdict) (sym (ap (λ (b : Bool). translation job rest b) whole) ∙ told)))
   | inr part ↦ failure_is code part
 ]
@@ -258,40 +252,27 @@ end_facts d h text gain n i w r stop legal drained wrote =
     }
 
 -- a frame of the lend was broken off
-pub record Broke (job : Job) (x : List ℕ) (at_end : Bool) (i w : ℕ) (gain : List ℕ) : Type 0 where
-  pub len : ℕ
-  pub text : List ℕ
-  pub passes : Passes job x at_end len i text
-  pub next : List ℕ
-  pub others : List (List ℕ)
-  pub stands_next : payloads_of job (drop len x) at_end ≡ next ∷ others
-  pub part : List ℕ
-  pub is_part : IsPrefix part (spelling job.output next)
-  pub short : length part < length (spelling job.output next)
-  pub all : gain ≡ text ++ part
-  pub counted : w ≡ capped (length gain)
-
--- What was written is a front of what was to be, and is counted.
-pub record FrontWritten (d : DrainState) (h : List Call) (text : List ℕ) (d' : DrainState) : Type 0 where
-  pub front : IsPrefix text (translated d.job h).text
-  pub frames : d'.frames ≡ frames_in d.job (total h) (is_whole h) text
-  pub written : d'.written ≡ capped (length text)
-
-pub write_failed : (d : DrainState) (h : List Call) (text gain : List ℕ) (i w : ℕ) → IsLegal h → IsDrained d h text → Broke d.job (held h) (is_whole h) i w gain
-    → FrontWritten d h (text ++ gain) (added d 0 i w d.known)
-write_failed d h text gain i w legal drained broke =
+pub write_failed : (d : DrainState) (h : List Call) (text lent : List ℕ) (ended : Option ℕ) (a b : SinkState) (broken : Broken) → IsLegal h → IsDrained d h text → lent ≡ held h → ended ≡ writer_end h → (breaks : Breaks d.job lent (is_success ended) a broken b)
+    → Concludes d.job (added d 0 broken.frames broken.written d.known).frames (added d 0 broken.frames broken.written d.known).written (Read ∷ h) (text ++ (breaks.text ++ breaks.part)) ends.SinkFault
+write_failed d h text lent ended a b broken legal drained same code breaks =
     let at_end = is_whole h in
-    let passes = passed_all d h text broke.text at_end broke.len i drained broke.passes in
-    let all : text ++ gain ≡ (text ++ broke.text) ++ broke.part = ap (λ (t : List ℕ). text ++ t) broke.all ∙ sym (append_assoc text broke.text broke.part) in
-    let behind_it : drop broke.len (held h) ≡ drop (d.place + broke.len) (total h) = ap (λ (x : List ℕ). drop broke.len x) (rest_of d h text drained) ∙ drop-drop broke.len d.place (total h) in
-    let stands : payloads_of d.job (drop (d.place + broke.len) (total h)) at_end ≡ broke.next ∷ broke.others = ap (λ (x : List ℕ). payloads_of d.job x at_end) (sym behind_it) ∙ broke.stands_next in
+    let over = subst (λ (x : List ℕ). Passes d.job x at_end breaks.len broken.frames breaks.text) same (subst (λ (o : Option ℕ). Passes d.job lent (is_success o) breaks.len broken.frames breaks.text) code breaks.passes) in
+    let passes = passed_all d h text breaks.text at_end breaks.len broken.frames drained over in
+    let all : (text ++ breaks.text) ++ breaks.part ≡ text ++ (breaks.text ++ breaks.part) = append_assoc text breaks.text breaks.part in
+    let behind_it : drop breaks.len lent ≡ drop (d.place + breaks.len) (total h) = ap (λ (x : List ℕ). drop breaks.len x) (same ∙ rest_of d h text drained) ∙ drop-drop breaks.len d.place (total h) in
+    let stands : payloads_of d.job (drop (d.place + breaks.len) (total h)) at_end ≡ breaks.next ∷ breaks.others =
+    ap (λ (x : List ℕ). payloads_of d.job x at_end) (sym behind_it) ∙ ap (λ (o : Option ℕ). payloads_of d.job (drop breaks.len lent) (is_success o)) (sym code) ∙ breaks.stands_next in
     record {
-      front = subst (λ (t : List ℕ). IsPrefix t (translated d.job h).text) (sym all) (front_partial d.job (total h) (text ++ broke.text) at_end (d.place + broke.len) (d.frames + i) broke.next broke.part broke.others passes stands broke.is_part);
-      frames =
-          frames_are d h text broke.text at_end broke.len i w d.known legal passes
-          ∙ sym (frames_partial d.job (total h) (text ++ broke.text) at_end (d.place + broke.len) (d.frames + i) broke.next broke.part broke.others passes stands broke.short)
-          ∙ ap (λ (t : List ℕ). frames_in d.job (total h) at_end t) (sym all);
-      written = capped_sum text gain d.written w drained.counted broke.counted;
+      front = subst (λ (t : List ℕ). IsPrefix t (translated d.job h).text) all (front_partial d.job (total h) (text ++ breaks.text) at_end (d.place + breaks.len) (d.frames + broken.frames) breaks.next breaks.part breaks.others passes stands breaks.is_part);
+      whole = λ passed. absurd cc;
+      verdict = λ passed. absurd cc;
+      ended = tt;
+      passed = λ passed. absurd cc;
+      frames_told =
+          frames_are d h text breaks.text at_end breaks.len broken.frames broken.written d.known legal passes
+          ∙ sym (frames_partial d.job (total h) (text ++ breaks.text) at_end (d.place + breaks.len) (d.frames + broken.frames) breaks.next breaks.part breaks.others passes stands breaks.short)
+          ∙ ap (λ (t : List ℕ). frames_in d.job (total h) at_end t) all;
+      written_told = capped_sum text (breaks.text ++ breaks.part) d.written broken.written drained.counted breaks.counted;
     }
 
 pub wrote_all : (job : Job) (lent x : List ℕ) (ended ended' : Option ℕ) (a b : SinkState) (drained : LendPassed) → lent ≡ x → ended ≡ ended' → (drains : Drains job lent (is_success ended) a drained b)
@@ -300,25 +281,6 @@ wrote_all job lent x ended ended' a b drained same code drains =
     subst (λ (y : List ℕ). Wrote job y (is_success ended') drained.passed drained.frames drained.written drained.stop drains.text) same
     (subst (λ (o : Option ℕ). Wrote job lent (is_success o) drained.passed drained.frames drained.written drained.stop drains.text) code
     (record { passes = drains.passes; counted = drains.counted; stopped = drains.stopped }))
-
-pub broke_off : (job : Job) (lent x : List ℕ) (ended ended' : Option ℕ) (a b : SinkState) (broken : Broken) → lent ≡ x → ended ≡ ended' → (breaks : Breaks job lent (is_success ended) a broken b)
-    → Broke job x (is_success ended') broken.frames broken.written (breaks.text ++ breaks.part)
-broke_off job lent x ended ended' a b broken same code breaks =
-    subst (λ (y : List ℕ). Broke job y (is_success ended') broken.frames broken.written (breaks.text ++ breaks.part)) same
-    (subst (λ (o : Option ℕ). Broke job lent (is_success o) broken.frames broken.written (breaks.text ++ breaks.part)) code
-    (record {
-      len = breaks.len;
-      text = breaks.text;
-      passes = breaks.passes;
-      next = breaks.next;
-      others = breaks.others;
-      stands_next = breaks.stands_next;
-      part = breaks.part;
-      is_part = breaks.is_part;
-      short = breaks.short;
-      all = refl;
-      counted = breaks.counted;
-    }))
 
 -- ---- between the steps
 

@@ -14,14 +14,11 @@ mod LendLemmas
 mod MeetLemmas
 mod PipeDrainerLemmas
 mod PipeFillerLemmas
-mod PumpEndLemmas
 mod PumpFillLemmas
 mod PumpLemmas
-mod PumpedLemmas
 mod ReadOnLemmas
 mod ReaderEndLemmas
 mod ReportLemmas
-mod TallyLemmas
 mod TellLemmas
 mod WriteLemmas
 mod WriterEndLemmas

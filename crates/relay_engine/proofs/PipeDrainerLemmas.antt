@@ -1,23 +1,18 @@
 -- The steps of a drainer on a pipe for two threads.
 use Rattle.std.proofs.Common.{◌≡◌, ℕ, Bool, true, false, List, [], ◌∷◌, ◌++◌, Option, Some, None, IsSomeAnd, Result, Ok, Err, refl, sym, ap, ◌∙◌, subst, append-nil, arith}
-use Rattle.std.specs.Prelude.{◌==◌, ◌≢◌, cond, filter, length, map, option_map, reverse, unwrap_or}
-use Rattle.std.specs.List.{All, AllByRecursion}
-use Rattle.std.proofs.lemmas.Bool.Decides.{Decides-eqb}
-use Rattle.std.proofs.lemmas.List.{reverse-append}
-use Rattle.std.proofs.lemmas.List.Elements.{All-head, All-tail}
+use Rattle.std.specs.Prelude.{length, option_map, unwrap_or}
 use Rattle.std.proofs.KnownBytes.{Appends-trans}
 use Rattle.edge_core.specs.Device.{SinkState, Takes}
 use Rattle.edge_core.proofs.DeviceLemmas.{Takes-trans}
-use Rattle.turn_cell.specs.History.{entries_of}
 use Rattle.turn_cell.specs.Seat.{CellState, IsIdle}
-use Rattle.pipe_core.specs.History.{Call, EndReader, seat_of}
+use Rattle.pipe_core.specs.History.{Call, EndReader}
 use Rattle.pipe_core.specs.Legal.{IsLegal}
 use Rattle.pipe_shared.specs.declared.faults.TryFault.{TryFault}
 use Rattle.pipe_shared.specs.declared.faults.TryFault.TheVariants as try
 use Rattle.pipe_shared.specs.Log.{IsLawful, calls_of}
 use Rattle.frame_grammar.specs.declared.job.Job.{Job}
 use Rattle.pipe_shared.specs.Name.{Name}
-use Rattle.pipe_shared.specs.Heard.{CallsBehind}
+use Rattle.pipe_shared.specs.Heard.{CallsBehind, Hears}
 use Rattle.pipe_shared.specs.declared.options.Options.{Options}
 use Rattle.pipe_core.specs.declared.reply.Wake.{Wake}
 use Rattle.pipe_core.specs.Answers.{Woke}
@@ -41,11 +36,10 @@ use Rattle.relay_engine.specs.declared.pipe_drainer.DrainStep.{DrainStep}
 use Rattle.relay_engine.specs.declared.pipe_drainer.DrainStep.TheVariants.{Moved, Idle, Busy, Worn, Done}
 use Rattle.relay_engine.proofs.BehindOthersLemmas.{concludes_later}
 use Rattle.relay_engine.proofs.DeviceLemmas.{takes_nothing}
-use Rattle.relay_engine.proofs.LaterLemmas.{all_append}
+use Rattle.relay_engine.proofs.LaterLemmas.{heard_all, makes_spends}
 use Rattle.relay_engine.proofs.LendLemmas.{behind_others}
 use Rattle.relay_engine.proofs.PumpLemmas.{new_drained}
 use Rattle.relay_engine.proofs.ReaderEndLemmas.{legal_behind}
-use Rattle.relay_engine.proofs.TallyLemmas.{makes_spends}
 
 pub same_some : {A : Type 0} (o : Option A) (a b : A) → o ≡ Some a → o ≡ Some b → a ≡ b
 same_some o a b first second = ap (λ x. unwrap_or x a) (sym first ∙ second)
@@ -328,23 +322,6 @@ wrote_all job before d d' k k' (Done told) end seat frames written ends_so is co
 
 -- ---- a new drainer
 
--- the calls of a history in which a number has made none are others'
-none_of_mine : (k : ℕ) (history : List (ℕ × Call)) → All (λ (e : ℕ × Call). e.0 ≡ seat_of e.1) history → entries_of k history ≡ [] → AllByRecursion (λ call. seat_of call ≢ k) (map (λ e. e.1) history)
-none_of_mine k [] all none = tt
-none_of_mine k (e ∷ history) all none = each (e.0 == k) refl none (λ rest. none_of_mine k history (All-tail (λ (e : ℕ × Call). e.0 ≡ seat_of e.1) e history all) rest)
-  where
-    seat : e.0 ≡ seat_of e.1
-    seat = All-head (λ (e : ℕ × Call). e.0 ≡ seat_of e.1) e history all
-
-    each : (b : Bool) → (e.0 == k) ≡ b → map (λ (e : ℕ × Call). e.1) (cond b (e ∷ filter (λ (e : ℕ × Call). e.0 == k) history) (filter (λ (e : ℕ × Call). e.0 == k) history)) ≡ []
-        → (entries_of k history ≡ [] → AllByRecursion (λ call. seat_of call ≢ k) (map (λ e. e.1) history)) → AllByRecursion (λ call. seat_of call ≢ k) (e.1 ∷ map (λ e. e.1) history)
-    each true is none rest = absurd cc
-    each false is none rest = (λ same. let both = sym is ∙ (Decides-eqb e.0 k).1 (seat ∙ same) in absurd cc, rest none)
-
-all_reversed : (p : Call → Type 0) (calls : List Call) → AllByRecursion p calls → AllByRecursion p (reverse calls)
-all_reversed p [] all = tt
-all_reversed p (call ∷ calls) all = subst (λ (l : List Call). AllByRecursion p l) (sym (reverse-append (call ∷ []) calls)) (all_append p (reverse calls) (call ∷ []) (all_reversed p calls all.1) (all.0, tt))
-
 pub begins_new : (d : DrainerState) (r : Reader) (job : Job) → d.end ≡ Some r → d.ending ≡ None → d.draining ≡ record { drained = record { job = job; place = 0; frames = 0; written = 0; known = 0 }; owed = None } → IsEnd 1 r.seat → r.seat.own ≡ [] → IsLawful r.seat.seen → r.lent ≡ None → IsDraining d []
 begins_new d r job has going new end none lawful no_lend = record {
   reader = r;
@@ -358,11 +335,11 @@ begins_new d r job has going new end none lawful no_lend = record {
     start : DrainState
     start = record { job = job; place = 0; frames = 0; written = 0; known = 0 }
 
-    others : AllByRecursion (λ call. seat_of call ≢ 1) (seen_by r)
-    others = all_reversed (λ call. seat_of call ≢ 1) (map (λ e. e.1) r.seat.seen) (none_of_mine 1 r.seat.seen lawful.seats (end.own ∙ none))
+    heard : Hears 1 [] (seen_by r)
+    heard = heard_all 1 r.seat end none lawful
 
     drained : IsDrained start (seen_by r) []
-    drained = subst (λ (l : List Call). IsDrained start l []) (append-nil (seen_by r)) (behind_others start [] [] (seen_by r) others (subst (λ (l : List Call). IsLegal l) (sym (append-nil (seen_by r))) lawful.legal) (new_drained job))
+    drained = subst (λ (l : List Call). IsDrained start l []) (sym heard.seen) (behind_others start [] [] heard.heard heard.others (subst IsLegal heard.seen lawful.legal) (new_drained job))
 
 -- what has written no byte has written nothing
 pub unwritten : (d : DrainerState) (text : List ℕ) → IsUnwritten d → IsDraining d text → IsDraining d []

@@ -1,5 +1,5 @@
 -- A filler of a pipe that two threads use: what the step of its part that knows no pipe is to it.
-use Rattle.std.proofs.Common.{◌≡◌, ◌≤◌, ◌^◌, ℕ, false, reverse, List, [], ◌∷◌, ◌++◌, length, Option, Some, None, Result, Ok, Err, refl, sym, ap, ◌∙◌, subst, append-nil, arith}
+use Rattle.std.proofs.Common.{◌≡◌, ◌≤◌, ◌^◌, ℕ, false, List, [], ◌∷◌, ◌++◌, length, Option, Some, None, Result, Ok, Err, refl, sym, ap, ◌∙◌, subst, append-nil, arith}
 use Rattle.std.specs.Prelude.{IfSome, IsNone, unwrap_or}
 use Rattle.std.specs.List.{AllByRecursion}
 use Rattle.std.proofs.lemmas.List.{length-append}
@@ -19,9 +19,9 @@ use Rattle.pipe_shared.specs.Turns.{Refuses}
 use Rattle.pipe_shared.specs.Ends.{IsEnd, Writer}
 use Rattle.relay_engine.specs.Filler.{written, fill_code}
 use Rattle.relay_engine.specs.Later.{Later}
-use Rattle.relay_engine.proofs.FillingLemmas.{EndsFor, took, written_later}
+use Rattle.relay_engine.proofs.FillingLemmas.{EndsFor, took, written_later, written_under}
 use Rattle.relay_engine.proofs.PumpLemmas.{gone_says}
-use Rattle.relay_engine.proofs.MeetLemmas.{written_by_writer}
+use Rattle.relay_engine.proofs.LaterLemmas.{heard_all}
 use Rattle.relay_engine.specs.Filling.{FillingState, HasTaken, FillsOn}
 use Rattle.relay_engine.specs.WriterEnds.{FindsNoRoom, HasWritten, IsOthers, RefusesWriter, drafting}
 use Rattle.relay_engine.specs.PipeFiller.{FillerState, IsFiller, MayClose, Closes, CompletesBy, EndsFrom, StepsFrom, all_of, closed_as, filler_of, filling_of, is_closed, is_done, seen_by, writer_in}
@@ -35,7 +35,7 @@ use Rattle.relay_engine.specs.declared.pipe_filler.FillStep.{FillStep}
 pub none_taken : (w : Writer) → IsEnd 0 w.seat → w.seat.own ≡ [] → IsLawful w.seat.seen → w.draft ≡ [] → all_of w ≡ []
 none_taken w end none lawful undrafted =
     ap (λ (x : List Run). written (seen_by w) ++ bytes_of x) undrafted ∙ append-nil (written (seen_by w))
-    ∙ written_by_writer w.seat.seen lawful.seats ∙ ap (λ (l : List Call). written (reverse l)) (end.own ∙ none)
+    ∙ (let heard = heard_all 0 w.seat end none lawful in ap written heard.seen ∙ written_under IsOthers (λ call is. is) heard.heard [] heard.others)
 
 pub new_filler : (f : FillingState) (w : Writer) → f.taken ≡ 0 → f.drafted ≡ 0 → f.limit ≤ 2 ^ 40 → IsEnd 0 w.seat → w.seat.own ≡ [] → IsLawful w.seat.seen → w.draft ≡ [] → IsFiller f (Open w) None
 new_filler f w taken drafted small end none lawful undrafted = record {
@@ -100,15 +100,9 @@ pub gone_later : (h k : List Call) (code : ℕ) → Later IsOthers h k → IsLeg
 gone_later h k code later legal is =
     subst (λ (l : List Call). reader_end l ≡ Some code) (sym later.is) (reader_stays later.between h code later.all (subst IsLegal later.is legal) is)
 
-if_some : (ending : Option FillEnd) (reason : FillEnd) (Q : Type 0) → ending ≡ Some reason → IfSome ending (λ _. Q) → Q
-if_some ending reason Q is holds = subst (λ (o : Option FillEnd). IfSome o (λ _. Q)) is holds
-
-some_if : (ending : Option FillEnd) (reason : FillEnd) (Q : Type 0) → ending ≡ Some reason → Q → IfSome ending (λ _. Q)
-some_if ending reason Q is holds = subst (λ (o : Option FillEnd). IfSome o (λ _. Q)) (sym is) holds
-
 pub may_close : (f : FillingState) (end : FillerEnd) (ending : Option FillEnd) (reason : FillEnd) → ending ≡ Some reason → IsFiller f end ending → MayClose (writer_in end)
 may_close f end ending reason is i =
-    let settled = if_some ending reason ((writer_in end).draft ≡ []) is i.settled in
+    let settled = subst (λ (o : Option FillEnd). IfSome o (λ _. (writer_in end).draft ≡ [])) is i.settled in
     record {
       settled = settled;
       legal = i.taken.stands.1;
@@ -125,7 +119,7 @@ pub record ClosedOn (f : FillingState) (end end' : FillerEnd) (ending : Option F
 pub closed_on : (f : FillingState) (end end' : FillerEnd) (ending : Option FillEnd) (reason : FillEnd) (result : Result (Unit {0}) TryFault) → ending ≡ Some reason → IsFiller f end ending → Closes (fill_code reason) end result end'
     → ClosedOn f end end' ending reason (closed_as reason result)
 closed_on f (Open w) (Closed seat) ending reason (Ok done) is i c =
-    let settled = if_some ending reason (w.draft ≡ []) is i.settled in
+    let settled = subst (λ (o : Option FillEnd). IfSome o (λ _. w.draft ≡ [])) is i.settled in
     let same : written c.found ≡ written (seen_by w) = written_later IsOthers (λ call apart. apart) (seen_by w) c.found c.later in
     let all : written (calls_of seat.seen) ++ [] ≡ all_of w =
     append-nil (written (calls_of seat.seen)) ∙ ap written c.seen ∙ same ∙ sym (append-nil (written (seen_by w))) ∙ ap (λ (x : List Run). written (seen_by w) ++ bytes_of x) (sym settled) in
@@ -142,18 +136,15 @@ closed_on f (Open w) (Closed seat) ending reason (Ok done) is i c =
         };
         within = i.within;
         small = i.small;
-        settled = some_if ending reason ([] ≡ []) is refl;
-        gone = λ code then. ap reader_end c.seen ∙ gone code (same_reason reason (taking.Gone code) (sym is ∙ then));
+        settled = subst (λ (o : Option FillEnd). IfSome o (λ _. (writer_in (Closed seat)).draft ≡ [])) (sym is) refl;
+        gone = λ code then. ap reader_end c.seen ∙ gone code (ap (λ (o : Option FillEnd). unwrap_or o reason) (sym is ∙ then));
       };
       completes = (refl, record { found = c.found; seen = c.seen; gone = gone; commits = c.commits; own = c.own; bytes = c.bytes ∙ sym (ap written c.seen) ∙ sym (append-nil (written (calls_of seat.seen))) }, all, c.spent);
       settled = refl;
       done = refl;
     }
-  where
-    same_reason : (a b : FillEnd) → Some a ≡ Some b → a ≡ b
-    same_reason a b e = ap (λ (o : Option FillEnd). unwrap_or o a) e
 closed_on f (Open w) (Open w') ending reason (Err fault) is i (refuses, draft, hears) =
-    let settled = if_some ending reason (w.draft ≡ []) is i.settled in
+    let settled = subst (λ (o : Option FillEnd). IfSome o (λ _. w.draft ≡ [])) is i.settled in
     let found : hears.found ≡ seen_by w' = hears.stands.0 in
     let later : Later IsOthers (seen_by w) (seen_by w') = subst (λ (l : List Call). Later IsOthers (seen_by w) l) found hears.later in
     let legal : IsLegal (seen_by w') = subst IsLegal found hears.legal in
@@ -170,7 +161,7 @@ closed_on f (Open w) (Open w') ending reason (Err fault) is i (refuses, draft, h
         };
         within = i.within;
         small = i.small;
-        settled = some_if ending reason (w'.draft ≡ []) is (draft ∙ settled);
+        settled = subst (λ (o : Option FillEnd). IfSome o (λ _. w'.draft ≡ [])) (sym is) (draft ∙ settled);
         gone = λ code then. gone_later (seen_by w) (seen_by w') code later legal (i.gone code then);
       };
       completes = each fault refuses same;

@@ -1,6 +1,6 @@
--- A fill step of a relay whose pipe rests.
+-- A fill step of a relay on one thread, whose pipe rests, and how such a relay ends.
 use Rattle.std.specs.List.{AllByRecursion}
-use Rattle.std.proofs.Common.{◌≡◌, ◌≢◌, ◌<◌, ◌≤◌, ◌+◌, ◌-◌, ◌*◌, ◌^◌, ◌==◌, ℕ, Bool, true, false, cond, if◌then◌else◌, nat_lt, List, [], ◌∷◌, ◌++◌, length, drop, Option, Some, None, Result, Ok, Err, inl, inr, refl, sym, ap, ◌∙◌, subst, append-nil, arith, ◌⊎◌}
+use Rattle.std.proofs.Common.{◌≡◌, ◌≢◌, ◌<◌, ◌≤◌, ◌+◌, ◌-◌, ◌*◌, ◌^◌, ◌==◌, ℕ, Bool, true, false, cond, if◌then◌else◌, nat_lt, List, [], ◌∷◌, ◌++◌, length, drop, Option, Some, None, Result, Ok, inl, inr, refl, sym, ap, ◌∙◌, subst, append-nil, arith, ◌⊎◌}
 use Rattle.std.specs.Prelude.{is_none, option_map, unwrap_or}
 use Rattle.std.proofs.KnownBytes.{Consumes-trans}
 use Rattle.std.proofs.lemmas.List.{length-append, take_all}
@@ -27,11 +27,11 @@ use Rattle.pipe_core.specs.Answers.{Woke}
 use Rattle.pipe_shared.specs.Options.{room_of}
 use Rattle.pipe_shared.specs.Local.{IsFull, Local, LocalAnswers}
 use Rattle.relay_engine.specs.Filler.{written, fill_code}
-use Rattle.relay_engine.specs.Filling.{FillingState, FillsOn, HasTaken, TakesBy}
+use Rattle.relay_engine.specs.Filling.{FillingState, HasTaken}
 use Rattle.relay_engine.specs.SoFar.{TakenSoFar}
 use Rattle.relay_engine.specs.WriterEnds.{IsLocalFull, local_drafting}
 use Rattle.relay_engine.specs.LocalEnds.{HoldsLocal, NoOthers, RefusesNone}
-use Rattle.relay_engine.specs.Drainer.{DrainState, looked_at}
+use Rattle.relay_engine.specs.Drainer.{DrainState, looked_at, end_code}
 use Rattle.relay_engine.specs.Draining.{DrainingState}
 use Rattle.relay_engine.specs.Pump.{EndsBy, FillsLocal}
 use Rattle.relay_engine.specs.declared.filling.Filled.{Filled}
@@ -39,7 +39,16 @@ use Rattle.relay_engine.specs.declared.filling.Filled.TheVariants.{Moved, Paused
 use Rattle.relay_engine.proofs.FillingLemmas.{EndsFor, OrCommits, Took, took}
 use Rattle.relay_engine.proofs.FillSideLemmas.{taken_on}
 use Rattle.relay_engine.proofs.LendLemmas.{behind_commit}
-use Rattle.relay_engine.proofs.PumpLemmas.{AtRest, Goes, Pumps, fuel, gone_says, later_same, none_left}
+use Rattle.relay_engine.proofs.PumpLemmas.{AtRest, Goes, Pumps, fuel, gone_says, later_same, none_left, DrainsLocal, behind_reader, gained}
+use Rattle.relay_model.specs.Ending.{outcome_of}
+use Rattle.relay_model.specs.Run.{IsReported, IsTaken}
+use Rattle.relay_engine.specs.Ending.{is_sink_fault, verdict_for}
+use Rattle.relay_engine.specs.Sides.{Concludes}
+use Rattle.relay_engine.specs.declared.drain_end.DrainEnd.{DrainEnd}
+use Rattle.relay_engine.specs.declared.draining.Progress.TheVariants.{Ended}
+use Rattle.relay_engine.proofs.PipeDrainerLemmas.{adds, as_gains}
+use Rattle.relay_engine.proofs.ReadOnLemmas.{passed_of}
+use Rattle.relay_engine.proofs.ReportLemmas.{HoldsOfAll, at_end_is, by_end, of_all, of_front, reported}
 
 -- ---- what the writer's calls leave to the reader
 
@@ -195,7 +204,7 @@ took_end job sb s s' kb k f f' d p middle p' ending filled end wake rest once se
         job_is = on.job_is;
         wrote = on.wrote;
         ended = refl;
-        not_gone = λ code is. not_gone code (some_end end (taking.Gone code) is);
+        not_gone = λ code is. not_gone code (ap (λ (o : Option FillEnd). unwrap_or o end) is);
         draft = keeps.draft;
         room = subst (λ (o : Options). longest_frame job.input job.max ≤ room_of o) (sym keeps.options) on.room;
         thresholds = subst (λ (o : Options). AreThresholds o.pause o.resume) (sym keeps.options) on.thresholds;
@@ -203,9 +212,6 @@ took_end job sb s s' kb k f f' d p middle p' ending filled end wake rest once se
       less = less (nat_lt 0 (p'.pipe.control.committed - p'.pipe.control.examined)) (none_left _ _ (omega (arith, holds.marks.committed, holds.marks.examined, c.asked.examined_is, rest.all_seen, ap length all))) same;
     }
   where
-    some_end : (a b : FillEnd) → Some a ≡ Some b → a ≡ b
-    some_end a b e = ap (λ (o : Option FillEnd). unwrap_or o a) e
-
     less : (b : Bool) → b ≡ false → f'.taken ≡ f.taken → (2 * (f'.limit - f'.taken) + 0 + cond b 1 0) + 1 ≤ 2 * (f.limit - f.taken) + 1
     less b off counted = rw off (omega (arith, keeps.limit, counted))
 
@@ -260,36 +266,12 @@ never_gone d text options f now code goes (canceled, runs, found, last, replied)
     let attended : reader_end found ≡ None = sym (ap (λ (x : List Call). reader_end x) last) ∙ goes.attended in
     let same = said ∙ attended in absurd cc
 
--- nor is a call refused
-pub none_refused : (options : Options) (f f' : FillingState) (p p' : Local) (s s' : SourceState) (fault : TryFault) (h : List Call) (bytes : List ℕ) → FillsOn HoldsLocal NoOthers local_drafting RefusesNone options (IsLocalFull tt) f p s (Err fault) f' p' s' h bytes → ⊥
-none_refused options f f' p p' s s' fault h bytes fills = elim fills [
-  | inl once ↦ takes f p h once.1
-  | inr other ↦ elim other [
-    | inl owed ↦ owed.settles.0
-    | inr behind ↦ takes behind.settled behind.writer_then (Commit (local_drafting p).draft ∷ behind.commits.found) behind.takes
-  ]
-]
-  where
-    takes : (f1 : FillingState) (p1 : Local) (k : List Call) → TakesBy HoldsLocal NoOthers local_drafting RefusesNone options (IsLocalFull tt) (Err fault) f1 p1 s f' p' s' k bytes → ⊥
-    takes f1 p1 k (inl room) = room.0
-    takes f1 p1 k (inr r) = r.settles.0
-
--- what a full pipe tells is so
-full_of : (options : Options) (f f' : FillingState) (p p' : Local) (s s' : SourceState) (told : room.Full) (h : List Call) (bytes : List ℕ) → FillsOn HoldsLocal NoOthers local_drafting RefusesNone options (IsLocalFull tt) f p s (Ok (Full told)) f' p' s' h bytes → IsFull 1 told p'
-full_of options f f' p p' s s' told h bytes fills = elim fills [
-  | inl once ↦ subst (λ (x : Local). IsFull 1 told x) (sym once.1.0.1) once.1.0.0
-  | inr other ↦ elim other [
-    | inl owed ↦ absurd owed.settles
-    | inr behind ↦ subst (λ (x : Local). IsFull 1 told x) (sym behind.takes.0.1) behind.takes.0.0
-  ]
-]
-
 -- ---- all of them
 
 pub filled : (job : Job) (sb s s' : SourceState) (kb k : SinkState) (f f' : FillingState) (d : DrainingState) (p p' : Local) (ending result : Option FillEnd) → NeverBoth → (rest : AtRest job sb s kb k f d p ending) → FillsLocal f p s result f' p' s' rest.on.h (total rest.on.h) → Keeps f p f' p'
     → StepFilled job sb s' kb k f f' d p' result
 filled job sb s s' kb k f f' d p p' ending result law rest fills keeps =
-    by_step fills.filled fills.middle fills.once (took HoldsLocal NoOthers local_drafting RefusesNone p.options (IsLocalFull tt) f f' p fills.middle s s' (Ok fills.filled) rest.on.h (total rest.on.h) fills.once) fills.settled fills.ends
+    by_step fills.filled fills.middle (took HoldsLocal NoOthers local_drafting RefusesNone p.options (IsLocalFull tt) f f' p fills.middle s s' (Ok fills.filled) rest.on.h (total rest.on.h) fills.once) fills.settled fills.ends
   where
     stays : (middle : Local) → p' ≡ middle → Keeps f p f' middle
     stays middle same = subst (λ (x : Local). Keeps f p f' x) same keeps
@@ -311,18 +293,46 @@ filled job sb s s' kb k f f' d p p' ending result law rest fills keeps =
         (taken_on job.limit (total rest.on.h) once.taken (Ok (Ended end)) sb s s' (omega (arith, len, keeps.within, keeps.limit, rest.on.limit))
         (λ is. let at_limit : f'.taken ≡ f'.limit = subst (λ (a : Result (Filled room.Full) TryFault). EndsFor p.options a f' once.now) is once.ends in omega (arith, len, at_limit, keeps.limit, rest.on.limit)) taken once.loses))
 
-    by_step : (filled : Filled room.Full) (middle : Local) → FillsOn HoldsLocal NoOthers local_drafting RefusesNone p.options (IsLocalFull tt) f p s (Ok filled) f' middle s' rest.on.h (total rest.on.h) → (once : Once f p s filled f' middle s' rest.on.h (total rest.on.h)) → middle.pipe.bytes.draft ≡ [] → EndsBy filled middle result p' → StepFilled job sb s' kb k f f' d p' result
-    by_step (Moved n) middle fills once settled ends =
+    by_step : (filled : Filled room.Full) (middle : Local) → (once : Once f p s filled f' middle s' rest.on.h (total rest.on.h)) → middle.pipe.bytes.draft ≡ [] → EndsBy filled middle result p' → StepFilled job sb s' kb k f f' d p' result
+    by_step (Moved n) middle once settled ends =
         more middle ends.0 ends.1 (took_bytes job sb s s' kb k f f' d p middle ending (Moved n) rest once (stays middle ends.1) once.loses (moved_some job sb s s' kb k f f' d p middle ending n rest once))
-    by_step (Paused n) middle fills once settled ends =
+    by_step (Paused n) middle once settled ends =
         more middle ends.0 ends.1 (took_bytes job sb s s' kb k f f' d p middle ending (Paused n) rest once (stays middle ends.1) once.loses (paused_some job sb s s' kb k f f' d p middle ending n law rest once))
-    by_step (Full told) middle fills once settled ends = absurd (never_full job sb s s' kb k f f' d p middle ending (Full told) told rest once (stays middle ends.1) once.loses.0 (full_of p.options f f' p middle s s' told rest.on.h (total rest.on.h) fills))
-    by_step (Ended taking.End) middle fills once settled ends = ended taking.End middle once settled ends once.loses.0 (λ code is. absurd cc)
-    by_step (Ended taking.Fault) middle fills once settled ends = ended taking.Fault middle once settled ends once.loses.0 (λ code is. absurd cc)
-    by_step (Ended taking.Long) middle fills once settled ends = ended taking.Long middle once settled ends once.loses.0 (λ code is. absurd cc)
-    by_step (Ended (taking.Gone code)) middle fills once settled ends =
+    by_step (Full told) middle once settled ends = absurd (never_full job sb s s' kb k f f' d p middle ending (Full told) told rest once (stays middle ends.1) once.loses.0 (subst (λ (x : Local). IsFull 1 told x) (sym once.met.1.1) once.met.1.0))
+    by_step (Ended taking.End) middle once settled ends = ended taking.End middle once settled ends once.loses.0 (λ code is. absurd cc)
+    by_step (Ended taking.Fault) middle once settled ends = ended taking.Fault middle once settled ends once.loses.0 (λ code is. absurd cc)
+    by_step (Ended taking.Long) middle once settled ends = ended taking.Long middle once settled ends once.loses.0 (λ code is. absurd cc)
+    by_step (Ended (taking.Gone code)) middle once settled ends =
         let c = committed job sb s s' kb k f f' d p middle ending (Ended (taking.Gone code)) rest once settled in
         absurd (never_gone d.drained rest.on.text p.options f' once.now code c.asked.goes once.ends)
 
 pub small_total : (p : Local) (h : List Call) → HoldsFor p.pipe h → p.pipe.control.committed ≤ 2 ^ 62
 small_total p h holds = omega (arith, holds.marks.committed, (ordered h holds.marks.legal).total_in)
+
+-- how the taking ended, where it didn't since the reader went
+abbrev pub taken_as : Option FillEnd → DrainEnd → FillEnd
+taken_as ending end = unwrap_or ending (taking.Gone (end_code end))
+
+run_taken : (job : Job) (x : List ℕ) (ending : Option FillEnd) (code : ℕ) (sb s : SourceState) → TakenSoFar job.limit x ending sb s → IsTaken job.limit x (unwrap_or ending (taking.Gone code)) sb s
+run_taken job x None code sb s taken =
+    record { dropped = []; dropping = refl; given = rw (append-nil x) taken.0.given; within = taken.1; end = λ is. absurd cc; long = λ is. absurd cc; fault = λ is. absurd cc; unfailed = λ is. taken.0.unfailed }
+run_taken job x (Some end) code sb s taken = taken
+
+-- what the reader had seen is all that was taken, whether or not more might be
+stands : (job : Job) (frames told : ℕ) (x : List ℕ) (ending : Option FillEnd) (k : List Call) (text : List ℕ) (end : DrainEnd) → ((code : ℕ) → ending ≢ Some (taking.Gone code)) → writer_end k ≡ option_map fill_code ending → total k ≡ x → Concludes job frames told k text end → HoldsOfAll job x (taken_as ending end) k text end
+stands job frames told x None k text end not_gone ended all concludes =
+    of_front job frames told x (taken_as None end) k text end concludes (record { more = []; parts = append-nil (total k) ∙ all; going = ended })
+stands job frames told x (Some fill) k text end not_gone ended all concludes =
+    let never : (code : ℕ) → fill ≢ taking.Gone code = λ code is. not_gone code (ap (λ (e : FillEnd). Some e) is) in
+    of_all job frames told x fill k text end concludes (record { all = all; whole = at_end_is fill k never ended; not_gone = never })
+
+pub finished : (job : Job) (sb s : SourceState) (kb k k' : SinkState) (f : FillingState) (d d' : DrainingState) (p p' : Local) (ending : Option FillEnd) (end : DrainEnd) → job.limit ≤ 2 ^ 40 → Pumps job sb s kb k f d p ending → DrainsLocal d p k (Ended end) d' p' k'
+    → IsReported job (record { outcome = outcome_of (is_sink_fault end) (taken_as ending end) (verdict_for end); frames = d'.drained.frames; taken = f.taken; written = d'.drained.written }) sb s kb k'
+finished job sb s kb k k' f d d' p p' ending end limit on once =
+    let a = once.cause on.h on.text on.holds (passed_of d on.h on.text on.fresh on.goes.drained) in
+    let same = behind_reader on.h a.now a.on in
+    let all = on.text ++ once.gain in
+    let concludes = subst (λ (j : Job). Concludes j d'.drained.frames d'.drained.written a.now all end) (once.job ∙ on.job_is) a.how in
+    let gains = adds (is_sink_fault end) kb k k' on.text once.gain on.wrote (gained d (is_sink_fault end) k k' once.gain on.fresh once.gained) in
+    reported job _ (total on.h) (taken_as ending end) a.now all end sb s kb k' limit refl on.counted (run_taken job (total on.h) ending (end_code end) sb s on.taken) (by_end end kb all k' (as_gains end kb k' all gains)) concludes
+    (stands job d'.drained.frames d'.drained.written (total on.h) ending a.now all end on.not_gone (same.ended_is ∙ on.ended) same.total_is concludes)

@@ -35,7 +35,7 @@ use Rattle.relay_engine.specs.Later.{Later}
 use Rattle.relay_engine.specs.Drainer.{DrainState, IsDrained}
 use Rattle.relay_engine.specs.ReaderEnds.{Aside, aside_local, lent_local, local_tally}
 use Rattle.relay_engine.specs.LocalEnds.{HoldsLocal, NoOthers, RefusesNone}
-use Rattle.relay_engine.specs.Draining.{DrainingState, DrainsOnce, GainsBy, HasPassed, MovesBy, OrReaders, Stands, lent_for}
+use Rattle.relay_engine.specs.Draining.{DrainingState, DrainsOnce, GainsBy, GainsIf, MovesBy, OrReaders, lent_for}
 use Rattle.relay_engine.specs.SoFar.{TakenSoFar}
 use Rattle.relay_engine.specs.declared.draining.Owed.{Owed}
 use Rattle.relay_engine.specs.declared.draining.Progress.{Progress}
@@ -43,7 +43,8 @@ use Rattle.relay_engine.specs.declared.draining.Progress.TheVariants.{Moved, Idl
 use Rattle.relay_engine.proofs.DeviceLemmas.{takes_nothing}
 use Rattle.relay_engine.proofs.LendLemmas.{pending_says, ready_says}
 use Rattle.relay_engine.proofs.FrameLemmas.{passes_nothing}
-use Rattle.relay_engine.proofs.LaterLemmas.{none_is}
+use Rattle.relay_engine.proofs.LaterLemmas.{none_is, none_mapped}
+use Rattle.relay_engine.proofs.ReadOnLemmas.{passed_of}
 
 -- A history in which nothing was dropped, and in which the reader goes on and has nothing lent.
 pub record Goes (d : DrainState) (h : List Call) (text : List ℕ) : Type 0 where
@@ -214,11 +215,7 @@ behind h k p' on holds gone = record {
 }
 
 no_lend : (k : List Call) (p' : Local) → HoldsFor p'.pipe k → p'.pipe.control.lent ≡ None → lend k ≡ None
-no_lend k p' holds none = none_of (lend k) (sym holds.marks.lent ∙ none)
-  where
-    none_of : (o : Option (List ℕ)) → option_map length o ≡ None → o ≡ None
-    none_of None is = refl
-    none_of (Some bytes) is = absurd cc
+no_lend k p' holds none = none_mapped length (lend k) (sym holds.marks.lent ∙ none)
 
 -- the options and the draft are as they were
 abbrev aside : Local → Aside
@@ -227,15 +224,12 @@ aside p = record { options = p.options; draft = p.pipe.bytes.draft }
 same_aside : (p p' : Local) → aside_local p' ≡ aside_local p → aside p' ≡ aside p
 same_aside p p' is = ap (λ (o : Option Aside). unwrap_or o (aside p)) is
 
-pub so_far : (d : DrainingState) (h : List Call) (text : List ℕ) → d.owed ≡ None → IsDrained d.drained h text → HasPassed d h text
-so_far d h text fresh drained = subst (λ (o : Option Owed). Stands d.drained o h text) (sym fresh) drained
-
-gained : (d : DrainingState) (a b : SinkState) (gain : List ℕ) → d.owed ≡ None → GainsBy d.owed false a gain b → Takes a gain b
-gained d a b gain fresh gains = subst (λ (o : Option Owed). GainsBy o false a gain b) fresh gains
+pub gained : (d : DrainingState) (failed : Bool) (a b : SinkState) (gain : List ℕ) → d.owed ≡ None → GainsBy d.owed failed a gain b → GainsIf failed a gain b
+gained d failed a b gain fresh gains = subst (λ (o : Option Owed). GainsBy o failed a gain b) fresh gains
 
 pub moved_on : (job : Job) (sb s : SourceState) (kb k k' : SinkState) (f : FillingState) (d d' : DrainingState) (p p' : Local) (ending : Option FillEnd) (frames : ℕ) → IsNone p'.pipe.control.gone → Pumps job sb s kb k f d p ending → DrainsLocal d p k (Moved frames) d' p' k' → Pumps job sb s kb k' f d' p' ending
 moved_on job sb s kb k k' f d d' p p' ending frames gone on once =
-    let a = once.cause on.h on.text on.holds (so_far d on.h on.text on.fresh on.goes.drained) in
+    let a = once.cause on.h on.text on.holds (passed_of d on.h on.text on.fresh on.goes.drained) in
     let so = behind on.h a.now p' a.on a.stands gone in
     let kept = same_aside p p' once.kept in
     record {
@@ -255,7 +249,7 @@ moved_on job sb s kb k k' f d d' p p' ending frames gone on once =
       drafted = on.drafted;
       limit = on.limit;
       job_is = once.job ∙ on.job_is;
-      wrote = Takes-trans kb k k' on.text once.gain on.wrote (gained d k k' once.gain on.fresh once.gained);
+      wrote = Takes-trans kb k k' on.text once.gain on.wrote (gained d false k k' once.gain on.fresh once.gained);
       ended = so.same.ended_is ∙ on.ended;
       not_gone = on.not_gone;
       draft = ap (λ a. a.draft) kept ∙ on.draft;
@@ -267,15 +261,12 @@ fuel_less : (a e : ℕ) (now before : Bool) → now ≡ false → before ≡ tru
 fuel_less a e now before none some = rw (none, some) (omega arith)
 
 pub none_left : (a b : ℕ) → a ≤ b → nat_lt 0 (a - b) ≡ false
-none_left a b within = ap (λ (n : ℕ). nat_lt 0 n) (sub_none a b within)
-  where
-    sub_none : (a b : ℕ) → a ≤ b → a - b ≡ 0
-    sub_none a b within = omega (arith, within)
+none_left a b within = let none : a - b ≡ 0 = omega (arith, within) in ap (λ (n : ℕ). nat_lt 0 n) none
 
 pub moved_less : (job : Job) (sb s : SourceState) (kb k k' : SinkState) (f : FillingState) (d d' : DrainingState) (p p' : Local) (ending : Option FillEnd) (frames : ℕ) → IsNone p'.pipe.control.gone → Pumps job sb s kb k f d p ending → DrainsLocal d p k (Moved frames) d' p' k' → fuel f p' ending < fuel f p ending
 moved_less job sb s kb k k' f d d' p p' ending frames gone on once =
     let h = on.h in
-    let a = once.cause h on.text on.holds (so_far d h on.text on.fresh on.goes.drained) in
+    let a = once.cause h on.text on.holds (passed_of d h on.text on.fresh on.goes.drained) in
     let so = behind h a.now p' a.on a.stands gone in
     let moves = subst (λ (o : Option Owed). MovesBy NoOthers o d h frames d' a.now) on.fresh a.how.0 in
     let found = later_same h moves.found moves.later in
@@ -295,7 +286,7 @@ pub record AtRest (job : Job) (sb s : SourceState) (kb k : SinkState) (f : Filli
 pub idle : (job : Job) (sb s : SourceState) (kb k : SinkState) (f : FillingState) (d d' : DrainingState) (p p' : Local) (ending : Option FillEnd) (n : ℕ) (k' : SinkState) → IsNone p'.pipe.control.gone → Pumps job sb s kb k f d p ending → DrainsLocal d p k (Idle n) d' p' k' → AtRest job sb s kb k' f d' p' ending
 idle job sb s kb k f d d' p p' ending n k' gone on once =
     let h = on.h in
-    let a = once.cause h on.text on.holds (so_far d h on.text on.fresh on.goes.drained) in
+    let a = once.cause h on.text on.holds (passed_of d h on.text on.fresh on.goes.drained) in
     let idles = a.how.0 in
     let found = later_same h idles.found idles.later in
     let told = subst (λ (x : List Call). reply_to_read 0 x ≡ read.Pending n (length (held x))) found idles.told in
@@ -321,21 +312,17 @@ idle job sb s kb k f d d' p p' ending n k' gone on once =
         drafted = on.drafted;
         limit = on.limit;
         job_is = once.job ∙ on.job_is;
-        wrote = subst (λ (t : List ℕ). Takes kb t k') (append-nil on.text) (Takes-trans kb k k' on.text [] on.wrote (subst (λ (t : List ℕ). Takes k t k') idles.none (gained d k k' once.gain on.fresh once.gained)));
+        wrote = subst (λ (t : List ℕ). Takes kb t k') (append-nil on.text) (Takes-trans kb k k' on.text [] on.wrote (subst (λ (t : List ℕ). Takes k t k') idles.none (gained d false k k' once.gain on.fresh once.gained)));
         ended = on.ended;
         not_gone = on.not_gone;
         draft = ap (λ a. a.draft) kept ∙ on.draft;
         room = subst (λ (o : Options). longest_frame job.input job.max ≤ room_of o) (sym (ap (λ a. a.options) kept)) on.room;
         thresholds = subst (λ (o : Options). AreThresholds o.pause o.resume) (sym (ap (λ a. a.options) kept)) on.thresholds;
       };
-      none_yet = none_of ending (sym on.ended ∙ goes_yet h waiting);
+      none_yet = none_mapped fill_code ending (sym on.ended ∙ goes_yet h waiting);
       all_seen = pending_says h n (length (held h)) on.holds.marks.legal told;
       waits = waits_again h waiting;
     }
-  where
-    none_of : (o : Option FillEnd) → option_map fill_code o ≡ None → o ≡ None
-    none_of None is = refl
-    none_of (Some end) is = absurd cc
 
 pub rest_open : (job : Job) (sb s : SourceState) (kb k : SinkState) (f : FillingState) (d : DrainingState) (p : Local) (ending : Option FillEnd) → AtRest job sb s kb k f d p ending → p.pipe.control.ended ≡ None
 rest_open job sb s kb k f d p ending rest = rest.on.holds.marks.ended ∙ rest.on.ended ∙ ap (λ (o : Option FillEnd). option_map fill_code o) rest.none_yet
@@ -347,7 +334,7 @@ rest_less f p (Some end) left none less = absurd cc
 
 -- a read was not refused
 pub never_refused : (job : Job) (sb s : SourceState) (kb k k' : SinkState) (f : FillingState) (d d' : DrainingState) (p p' : Local) (ending : Option FillEnd) (fault : TryFault) → Pumps job sb s kb k f d p ending → DrainsOnce HoldsLocal NoOthers RefusesNone local_tally lent_local aside_local d p k (Err fault) d' p' k' → ⊥
-never_refused job sb s kb k k' f d d' p p' ending fault on once = (once.cause on.h on.text on.holds (so_far d on.h on.text on.fresh on.goes.drained)).how.1.refused
+never_refused job sb s kb k k' f d d' p p' ending fault on once = (once.cause on.h on.text on.holds (passed_of d on.h on.text on.fresh on.goes.drained)).how.1.refused
 
 -- where the next step of the drainer may come
 pub lends_none : (d' : DrainingState) (p' : Local) → d'.owed ≡ None → lent_local p' ≡ lent_for d'.owed → lent_local p' ≡ None

@@ -36,8 +36,8 @@ use Rattle.relay_engine.specs.declared.draining.Owed.{Owed}
 use Rattle.relay_engine.specs.declared.draining.Progress.{Progress}
 use Rattle.relay_engine.specs.declared.draining.Progress.TheVariants.{Moved, Idle, Ended}
 use Rattle.relay_engine.proofs.DeviceLemmas.{appends_kept, takes_nothing}
-use Rattle.relay_engine.proofs.LendLemmas.{EndFacts, Wrote, at_end_so, broke_off, end_facts, frames_are, goes_on_so, held_is, lent_is_held, open_so, passed_all, passed_on, ready_says, some_is, write_failed, wrote_all}
-use Rattle.relay_engine.proofs.BehindOthersLemmas.{again, drained_later}
+use Rattle.relay_engine.proofs.LendLemmas.{EndFacts, Wrote, at_end_so, end_facts, frames_are, goes_on_so, held_is, lent_is_held, open_so, passed_all, passed_on, ready_says, some_is, write_failed, wrote_all}
+use Rattle.relay_engine.proofs.BehindOthersLemmas.{drained_later}
 use Rattle.relay_engine.proofs.LaterLemmas.{later_as, later_on, later_with}
 
 -- ---- why a drainer ends
@@ -84,16 +84,9 @@ concludes_well d h text gain n i w r c e stop end same drained facts so = record
 }
 
 -- and the flush behind it failed
-concludes_unflushed : (d : DrainState) (h : List Call) (text gain : List ℕ) (n i w r c e : ℕ) (stop : Stop) → EndFacts d h text gain n i w r stop → Concludes d.job (added d n i w r).frames (added d n i w r).written (Advance c e ∷ Read 0 ∷ h) (text ++ gain) ends.SinkFault
-concludes_unflushed d h text gain n i w r c e stop facts = record {
-  front = ([], append-nil (text ++ gain) ∙ sym (ap (λ t. t.text) facts.said));
-  whole = λ passed. absurd cc;
-  verdict = λ passed. absurd cc;
-  ended = tt;
-  passed = λ passed. absurd cc;
-  frames_told = facts.frames;
-  written_told = facts.written;
-}
+unflushed : (job : Job) (frames written : ℕ) (h : List Call) (text : List ℕ) (end : DrainEnd) → Concludes job frames written h text end → Concludes job frames written h text ends.SinkFault
+unflushed job frames written h text end c =
+    record { front = c.front; whole = λ passed. absurd cc; verdict = λ passed. absurd cc; ended = tt; passed = λ passed. absurd cc; frames_told = c.frames_told; written_told = c.written_told }
 
 -- ---- what is owed of a lend
 
@@ -130,17 +123,13 @@ stands_by d d1 found text ended lent before written after drained owed (Some end
     let facts = all_wrote d d1 found text ended lent before written drained owed l in
     let gain = l.drains.text in
     let all = Advance owed.passed owed.len ∷ Read 0 ∷ found in
+    let at_code = subst (λ (o : Option ℕ). EndsAs o d1.place drained.stop end) l.code (ends_as d.job ended d1.place drained.stop end (drop drained.passed lent) l.drains.stopped.told at) in
+    let at_place = subst (λ (e : DrainState). EndsAs (writer_end found) e.place drained.stop end) l.drainer at_code in
+    let well = concludes_well d found text gain _ _ _ _ owed.passed owed.len drained.stop end l.passed l.passed_so_far facts at_place in
     subst (λ (o : Option DrainEnd). StandsBehind d1 o all (text ++ gain)) (sym ends_owed.1)
     (elim ends_owed.2 [
-      | inl flushed ↦
-          let as_told = ends_as d.job ended d1.place drained.stop end (drop drained.passed lent) l.drains.stopped.told at in
-          let at_code = subst (λ (o : Option ℕ). EndsAs o d1.place drained.stop end) l.code as_told in
-          let at_place = subst (λ (e : DrainState). EndsAs (writer_end found) e.place drained.stop end) l.drainer at_code in
-          subst (λ (e : DrainEnd). Concludes d1.job d1.frames d1.written all (text ++ gain) e) (sym flushed.1)
-          (told end (concludes_well d found text gain _ _ _ _ owed.passed owed.len drained.stop end l.passed l.passed_so_far facts at_place))
-      | inr failed ↦
-          subst (λ (e : DrainEnd). Concludes d1.job d1.frames d1.written all (text ++ gain) e) (sym failed.1)
-          (told ends.SinkFault (concludes_unflushed d found text gain _ _ _ _ owed.passed owed.len drained.stop facts))
+      | inl flushed ↦ subst (λ (e : DrainEnd). Concludes d1.job d1.frames d1.written all (text ++ gain) e) (sym flushed.1) (told end well)
+      | inr failed ↦ subst (λ (e : DrainEnd). Concludes d1.job d1.frames d1.written all (text ++ gain) e) (sym failed.1) (told ends.SinkFault (unflushed d.job _ _ all (text ++ gain) end well))
     ])
   where
     told : (e : DrainEnd) → Concludes d.job (added d drained.passed drained.frames drained.written (length lent - drained.passed)).frames (added d drained.passed drained.frames drained.written (length lent - drained.passed)).written (Advance owed.passed owed.len ∷ Read 0 ∷ found) (text ++ l.drains.text) e
@@ -207,7 +196,7 @@ sees_all others ours found k owed legal advanced len =
 drained_of : (d : DrainingState) (h : List Call) (text : List ℕ) → d.owed ≡ None → HasPassed d h text → IsDrained d.drained h text
 drained_of d h text fresh passed = subst (λ (o : Option Owed). Stands d.drained o h text) fresh passed
 
-passed_of : (d : DrainingState) (h : List Call) (text : List ℕ) → d.owed ≡ None → IsDrained d.drained h text → HasPassed d h text
+pub passed_of : (d : DrainingState) (h : List Call) (text : List ℕ) → d.owed ≡ None → IsDrained d.drained h text → HasPassed d h text
 passed_of d h text fresh drained = subst (λ (o : Option Owed). Stands d.drained o h text) (sym fresh) drained
 
 behind_read : (d : DrainState) (h : List Call) (text : List ℕ) → IsDrained d h text → IsDrained d (Read 0 ∷ h) text
@@ -365,15 +354,13 @@ read_broken at others refuses tally lent aside d d1 p p1 before after canceled e
           let same_lent = lent_is_held found bytes (lends (Read 0 ∷ found) r.stands) in
           let says = ready_says found canceled ended len (sym r.so) in
           let at_found = drained_later others ours d.drained h found text r.later r.legal.0 (drained_of d h text fresh passed) in
-          let fails = write_failed d.drained found text gain broken.frames broken.written r.legal.0 at_found (broke_off d.drained.job bytes (held found) ended (writer_end found) before after broken same_lent says.0 breaks) in
+          let fails = write_failed d.drained found text bytes ended before after broken r.legal.0 at_found same_lent says.0 breaks in
           record {
             now = Read 0 ∷ found;
             on = with_call others h found (Read 0) refl (later_goes others h found r.later);
             legal = r.legal;
             stands = r.stands;
-            how =
-                subst (λ (e : DrainState). Concludes e.job e.frames e.written (Read 0 ∷ found) (text ++ gain) ends.SinkFault) (sym passes.2)
-                (again d.drained.job _ _ found (Read 0 ∷ found) (text ++ gain) ends.SinkFault refl refl refl (record { front = fails.front; whole = λ passed. absurd cc; verdict = λ passed. absurd cc; ended = tt; passed = λ passed. absurd cc; frames_told = fails.frames; written_told = fails.written }));
+            how = subst (λ (e : DrainState). Concludes e.job e.frames e.written (Read 0 ∷ found) (text ++ gain) ends.SinkFault) (sym passes.2) fails;
           };
       job = ap (λ e. e.job) passes.2;
       kept = kept;

@@ -22,7 +22,7 @@ use Rattle.relay_engine.specs.Later.{CallsLater, HearsLater}
 use Rattle.relay_engine.specs.Filling.{IsGranted}
 use Rattle.relay_engine.specs.WriterEnds.{HasWritten, IsOthers, drafting}
 use Rattle.relay_engine.proofs.FillingLemmas.{written_later}
-use Rattle.relay_engine.proofs.TallyLemmas.{wins_spends}
+use Rattle.relay_engine.proofs.LaterLemmas.{wins_spends}
 
 -- ---- what the end has heard
 

@@ -1,4 +1,4 @@
-use Rattle.relay_engine.proofs.PumpedLemmas.{settled}
+use Rattle.relay_engine.proofs.MeetLemmas.{settled}
 use Rattle.relay_engine.proofs.laws.settled_pump_is_reported.Goals as goal
 
 pub returns : goal.returns

@@ -2,7 +2,7 @@
 use Rattle.std.proofs.Common.{List, length, refl, ap, arith}
 use Rattle.pipe_core.specs.History.{Run, bytes_of, closing}
 use Rattle.relay_engine.proofs.EndingLemmas.{completes}
-use Rattle.relay_engine.proofs.TallyLemmas.{makes_spends}
+use Rattle.relay_engine.proofs.LaterLemmas.{makes_spends}
 use Rattle.relay_engine.proofs.WriterEndLemmas.{heard, never_too_much}
 use Rattle.relay_engine.proofs.pipe_filler.try_to_close.Goals as goal
 

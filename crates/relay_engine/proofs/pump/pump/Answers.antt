@@ -2,8 +2,7 @@
 use Rattle.std.proofs.Common.{◌∙◌, refl}
 use Rattle.pipe_core.specs.Progress.{total}
 use Rattle.relay_engine.proofs.PumpLemmas.{idle, lends_none, moved_less, moved_on, never_refused, rest_less, rest_open, starts}
-use Rattle.relay_engine.proofs.PumpFillLemmas.{filled, rest_taken}
-use Rattle.relay_engine.proofs.PumpEndLemmas.{finished}
+use Rattle.relay_engine.proofs.PumpFillLemmas.{filled, finished, rest_taken}
 use Rattle.relay_engine.proofs.pump.pump.Goals as goal
 
 pub loop-filling-init : goal.loop-filling-init

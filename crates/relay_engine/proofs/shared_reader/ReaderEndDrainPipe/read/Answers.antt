@@ -1,6 +1,6 @@
 use Rattle.std.proofs.Common.{refl}
 use Rattle.relay_engine.proofs.ReaderEndLemmas.{has_heard, has_read}
-use Rattle.relay_engine.proofs.TallyLemmas.{makes_spends}
+use Rattle.relay_engine.proofs.LaterLemmas.{makes_spends}
 use Rattle.relay_engine.proofs.shared_reader.ReaderEndDrainPipe.read.Goals as goal
 
 pub returns-in-Ok-clause-at : goal.returns-in-Ok-clause-at

@@ -1,6 +1,6 @@
 -- What the end has called, or heard.
 use Rattle.std.proofs.Common.{refl}
-use Rattle.relay_engine.proofs.TallyLemmas.{makes_spends}
+use Rattle.relay_engine.proofs.LaterLemmas.{makes_spends}
 use Rattle.relay_engine.proofs.WriterEndLemmas.{called, heard, never_too_much}
 use Rattle.relay_engine.proofs.shared_writer.WriterEndFillPipe.commit.Goals as goal
 
