@@ -253,7 +253,7 @@ end_facts d h text gain n i w r stop legal drained wrote =
 
 -- a frame of the lend was broken off
 pub write_failed : (d : DrainState) (h : List Call) (text lent : List ℕ) (ended : Option ℕ) (a b : SinkState) (broken : Broken) → IsLegal h → IsDrained d h text → lent ≡ held h → ended ≡ writer_end h → (breaks : Breaks d.job lent (is_success ended) a broken b)
-    → Concludes d.job (added d 0 broken.frames broken.written d.known).frames (added d 0 broken.frames broken.written d.known).written (Read ∷ h) (text ++ (breaks.text ++ breaks.part)) ends.SinkFault
+    → Concludes d.job (added d 0 broken.frames broken.written d.known).frames (added d 0 broken.frames broken.written d.known).written (Read 0 ∷ h) (text ++ (breaks.text ++ breaks.part)) ends.SinkFault
 write_failed d h text lent ended a b broken legal drained same code breaks =
     let at_end = is_whole h in
     let over = subst (λ (x : List ℕ). Passes d.job x at_end breaks.len broken.frames breaks.text) same (subst (λ (o : Option ℕ). Passes d.job lent (is_success o) breaks.len broken.frames breaks.text) code breaks.passes) in

@@ -15,7 +15,7 @@ use Rattle.relay_model.specs.Lines.{IsWritten, door_line, memory_line}
 use Rattle.relay_model.specs.World.{world}
 use Rattle.relay_top.specs.Batch.{AreFreshOf, Batches, HasNoMemory, HasRelayed, IsRefused, IsRelayedOf}
 use Rattle.relay_top.specs.Opening.{OpensNotAll, TellsRefusal}
-use Rattle.relay_top.proofs.OpeningLemmas.{doors_are, nothing_back}
+use Rattle.relay_model.proofs.DevicesLemmas.{doors_are, nothing_back}
 
 -- ---- all were relayed
 

@@ -202,11 +202,10 @@ module _ (seed count : ℕ) (job : Job) (source : SourceState) (doors : DoorsSta
   summed taken written line same takes untold ends =
       IsSummed ends.0 refl (record { source = refl; doors = refl }) (subst (λ (t : List ℕ). Takes kb t ka) (same ∙ same_summary seed count taken written job ends) takes) untold
 
-  pub broken_off : (taken written : ℕ) (line told : List ℕ) (n : ℕ) → line ≡ summary_line count taken written → TakesFront kb line n ka → told ≡ line_of WriteFault 0 n → IsWritten told fb fa
-      → EndsAs seed count job taken written Clean → Drilled exit.WriteFault
-  broken_off taken written line told n same front says is_told ends =
-      IsBrokenOff n ends.0 refl (record { source = refl; doors = refl }) (subst (λ (t : List ℕ). TakesFront kb t n ka) (same ∙ same_summary seed count taken written job ends) front)
-      (subst (λ (t : List ℕ). IsWritten t fb fa) says is_told)
+  pub broken_off : (taken written : ℕ) (line : List ℕ) (n : ℕ) (status : Status) → line ≡ summary_line count taken written → TakesFront kb line n ka → status ≡ exit.WriteFault → IsWritten (line_of WriteFault 0 n) fb fa
+      → EndsAs seed count job taken written Clean → Drilled status
+  broken_off taken written line n status same front failed told ends =
+      IsBrokenOff n ends.0 failed (record { source = refl; doors = refl }) (subst (λ (t : List ℕ). TakesFront kb t n ka) (same ∙ same_summary seed count taken written job ends) front) told
 
   pub no_room : (status : Status) → status ≡ exit.OutOfMemory → ka ≡ kb → IsWritten memory_line fb fa → Drilled status
   no_room status memory kept told = HasNoMemory memory (record { tells = record { source = refl; sink = kept; told = told }; doors = refl })

@@ -1,19 +1,6 @@
 -- The lines of names.
-use Rattle.std.proofs.Common.{◌≡◌, ◌+◌, ℕ, List, ◌∷◌, ◌++◌, length, sym, ap, ◌∙◌, append_assoc, inl, inr}
-use Rattle.edge_core.specs.Device.{SinkState, Takes, TakesFront}
-use Rattle.edge_core.proofs.DeviceLemmas.{Takes-trans, front_behind, front_more}
-use Rattle.relay_model.specs.Lines.{IsWritten}
+use Rattle.std.proofs.Common.{◌≡◌, ℕ, List, ◌∷◌, ◌++◌, sym, ap, ◌∙◌, append_assoc}
 use Rattle.relay_model.specs.Answers.{Answer, answer_line, answer_lines}
-
--- what is broken off is a front of the line
-pub broken_line : (a b : SinkState) (xs ys : List ℕ) (count : ℕ) → TakesFront a xs count b → IsWritten (xs ++ ys) a b
-broken_line a b xs ys count f = inr (count, front_more a b xs ys count f)
-
-pub line_behind : (a b c : SinkState) (xs ys : List ℕ) → Takes a xs b → IsWritten ys b c → IsWritten (xs ++ ys) a c
-line_behind a b c xs ys taken (inl all) = inl (Takes-trans a b c xs ys taken all)
-line_behind a b c xs ys taken (inr front) = inr (length xs + front.0, front_behind a b c xs ys front.0 taken front.1)
-
--- ---- going through the names
 
 -- one line more, of names that are left
 pub line_more : (lines longer name : List ℕ) (answer : Answer) (names names' : List (List ℕ)) (given given' : List Answer) (all : List ℕ) → names ≡ name ∷ names' → given ≡ answer ∷ given' → longer ≡ lines ++ answer_line name answer

@@ -10,13 +10,12 @@ ghost use Rattle.relay_top.specs.Batch.{Batches};
 ghost use Rattle.relay_top.specs.Opening.{IfFailed, TellsRefusal};
 
 use crate::doors::{Refusal, give_back_all, open_all};
-use crate::name_lines::{LINE, sum_up};
-use crate::telling::{report_on, tell_no_memory};
+use crate::name_lines::sum_up;
 use edge_core::{DoorError, Doors, Sink};
 use frame_grammar::Job;
 use relay_engine::Told;
 use relay_model::Status;
-use relay_threads::batch as relay_all;
+use relay_threads::{LINE, batch as relay_all, report_on, tell_no_memory};
 use std::alloc::Global;
 use std::thread::Threads;
 

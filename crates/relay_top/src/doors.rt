@@ -9,7 +9,7 @@ ghost use Rattle.relay_top.specs.Opening.{OpensNotAll, RefusesOne};
 
 use edge_core::{DoorError, Doors};
 use relay_model::Answer;
-use relay_threads::{Finished, Task};
+use relay_threads::{Finished, Task, give_back};
 use std::alloc::Global;
 
 /// Why not all names were opened: how an opening ended, behind so many names whose two devices were open.
@@ -114,14 +114,4 @@ pub(crate) fn give_back_all<D: Doors>(
         give_back(Task { inlet, outlet }, doors);
     }
     answers
-}
-
-/// Gives back a name's source and then its sink.
-fn give_back<D: Doors>(devices: Task<D::Inlet, D::Outlet>, doors: &mut D)
-    requires inlets { (D.state doors.old).inlets_out ≢ 0 }
-    requires outlets { (D.state doors.old).outlets_out ≢ 0 }
-    ensures { HasComeBack (devices_of (D.Inlet.state devices.inlet) (D.Outlet.state devices.outlet) ∷ []) (D.state doors.old) (D.state doors.new) }
-{
-    doors.give_inlet(devices.inlet);
-    doors.give_outlet(devices.outlet);
 }

@@ -10,14 +10,13 @@ ghost use Rattle.relay_model.specs.World.{world};
 ghost use Rattle.relay_top.specs.Drill.{Drills, EndsAs, summary_line};
 
 use crate::pumping::pump_and_settle;
-use crate::summary::{told_of, write_summary};
-use crate::telling::{report_on, tell_no_memory};
 use edge_core::{MemSink, Sink};
 use frame_grammar::Job;
 use frame_model::{bad_stays_bad, open_until_the_end};
 use gen_core::{GenSource, generated_has_no_rest, generated_is_small};
 use relay_engine::Told;
 use relay_model::{Outcome, Report, Status, status_of};
+use relay_threads::{report_on, tell_broken_off, tell_no_memory, write_summary};
 use std::alloc::{AllocError, Global};
 use std::sync::Wait;
 use std::thread::Threads;
@@ -96,10 +95,7 @@ fn sum_up<K: Sink, E: Sink>(
     };
     match write_summary(sink, line.as_bytes()) {
         Ok(()) => Status::Clean,
-        Err(broken) => {
-            report_on(faults, told_of(broken));
-            Status::WriteFault
-        }
+        Err(broken) => tell_broken_off(faults, broken),
     }
 }
 

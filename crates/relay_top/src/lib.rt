@@ -8,7 +8,6 @@ mod laws;
 mod local;
 mod name_lines;
 mod pumping;
-mod summary;
 mod telling;
 mod threaded;
 

@@ -10,11 +10,12 @@ ghost use Rattle.relay_words.specs.declared.command.Command.TheVariants.{Local};
 ghost use Rattle.relay_top.specs.Commands.{Does, IsCaused, IsWhole, Runs, Translates};
 
 use crate::laws::what_runs_come_to;
-use crate::telling::{tell_answer, tell_usage};
+use crate::telling::tell_usage;
 use edge_core::{Sink, Source};
 use frame_grammar::Job;
 use relay_engine::pump_local;
 use relay_model::Status;
+use relay_threads::tell_answer;
 use relay_words::{LocalCommand, read_local};
 use std::alloc::Global;
 

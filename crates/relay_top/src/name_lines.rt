@@ -2,20 +2,13 @@
 
 ghost use Rattle.std.specs.Prelude.{◌≡◌, ◌≤◌, ◌+◌, ◌*◌, ◌++◌, [], length, vec_capacity, vec_len};
 ghost use Rattle.std.specs.List.{All};
-ghost use Rattle.relay_model.specs.Lines.{IsWritten};
 ghost use Rattle.relay_words.specs.Names.{IsName};
 ghost use Rattle.relay_words.specs.Words.{texts};
-ghost use Rattle.relay_model.specs.Answers.{EndsLike, Sums, answer_line, answer_lines, fault_line, first_failed};
+ghost use Rattle.relay_model.specs.Answers.{EndsLike, Sums, answer_lines, first_failed};
 
-use crate::summary::{told_of, write_summary};
-use crate::telling::{cause_of, report_on};
-use edge_core::{Sink, write_all};
-use itoa::Buffer;
-use relay_model::{Answer, Status, frames_of_answer, status_of_answer};
-
-/// How many bytes the line of a name has at most: 255 of the name, 3 of its status, 20 of a number of frames, and 3 between
-/// and behind them.
-pub(crate) const LINE: usize = 281;
+use edge_core::Sink;
+use relay_model::{Answer, Status, status_of_answer};
+use relay_threads::{add_line, report_on_answer, tell_broken_off, write_summary};
 
 /// Writes the line of each name and flushes the sink once, and answers the status of the command. `lines` has room for them.
 pub(crate) fn sum_up<K: Sink, E: Sink>(
@@ -34,10 +27,7 @@ pub(crate) fn sum_up<K: Sink, E: Sink>(
     let lines = name_lines(names, answers, lines);
     match write_summary(sink, lines.as_slice()) {
         Ok(()) => end_like_first(names, answers, faults),
-        Err(broken) => {
-            report_on(faults, told_of(broken));
-            Status::WriteFault
-        }
+        Err(broken) => tell_broken_off(faults, broken),
     }
 }
 
@@ -61,37 +51,6 @@ fn name_lines(names: &[String], answers: &[Answer], lines: Vec<u8>) -> Vec<u8>
     lines
 }
 
-/// Adds the line of a name.
-fn add_line(lines: &mut Vec<u8>, name: &str, answer: &Answer)
-    requires short { length name.now ≤ 255 }
-    requires room { vec_len lines.old + 281 ≤ vec_capacity lines.old }
-    ensures added { lines.new.items ≡ lines.old.items ++ answer_line name.now answer.now }
-    ensures capacity { vec_capacity lines.old ≤ vec_capacity lines.new }
-    ensures len { vec_len lines.new ≤ vec_len lines.old + 281 }
-{
-    let (mut status_digits, mut frames_digits) = (Buffer::new(), Buffer::new());
-    let status = status_digits.format(status_of_answer(answer).number());
-    let frames = frames_digits.format(frames_of_answer(answer));
-    add(lines, name.as_bytes());
-    add(lines, b" ");
-    add(lines, status.as_bytes());
-    add(lines, b" ");
-    add(lines, frames.as_bytes());
-    add(lines, b"\n");
-}
-
-/// Adds a piece for which there is room.
-fn add(lines: &mut Vec<u8>, piece: &[u8])
-    requires { vec_len lines.old + length piece.now ≤ vec_capacity lines.old }
-    ensures added { lines.new.items ≡ lines.old.items ++ piece.now }
-    ensures len { vec_len lines.new ≡ vec_len lines.old + length piece.now }
-    ensures capacity { vec_capacity lines.old ≤ vec_capacity lines.new }
-{
-    let Ok(()) = lines.extend_from_slice(piece) else {
-        unreachable!()
-    };
-}
-
 /// Tells of the first name whose status isn't clean, and answers that status.
 fn end_like_first<E: Sink>(names: &[String], answers: &[Answer], faults: &mut E) -> Status
     requires { length answers.now ≡ length names.now }
@@ -104,23 +63,10 @@ fn end_like_first<E: Sink>(names: &[String], answers: &[Answer], faults: &mut E)
         };
         let status = status_of_answer(answer);
         if !status.is_clean() {
-            report_on_name(faults, name.as_str(), answer);
+            report_on_answer(faults, name.as_str(), answer);
             return status;
         }
         (names, answers) = (other_names, other_answers);
     }
     Status::Clean
-}
-
-/// Writes the line of a name, as far as no write fails.
-fn report_on_name<E: Sink>(faults: &mut E, name: &str, answer: &Answer)
-    ensures { IsWritten (fault_line name.now answer.now) (E.state faults.old) (E.state faults.new) }
-{
-    let Ok(()) = write_all(faults, name.as_bytes()) else {
-        return;
-    };
-    let Ok(()) = write_all(faults, b": ") else {
-        return;
-    };
-    report_on(faults, cause_of(answer));
 }

@@ -2,8 +2,8 @@ use Rattle.std.proofs.Common.{ℕ, List, ◌++◌, subst}
 use Rattle.std.specs.Prelude.{codes}
 use Rattle.relay_model.specs.Lines.{IsWritten}
 use Rattle.relay_model.specs.Answers.{cause_of_answer}
-use Rattle.relay_top.proofs.NameLemmas.{broken_line, line_behind}
-use Rattle.relay_top.proofs.name_lines.report_on_name.Goals as goal
+use Rattle.relay_threads.proofs.LineLemmas.{broken_line, line_behind}
+use Rattle.relay_threads.proofs.answer_lines.report_on_answer.Goals as goal
 
 pub returns-in_default : goal.returns-in_default
 returns-in_default g c =

@@ -1,5 +1,5 @@
 use Rattle.std.proofs.Common.{arith}
-use Rattle.relay_top.proofs.name_lines.add_line.Goals as goal
+use Rattle.relay_threads.proofs.answer_lines.add_line.Goals as goal
 
 pub add-requires-5 : goal.add-requires-5
 add-requires-5 c = omega (
