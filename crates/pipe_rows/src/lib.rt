@@ -5,6 +5,8 @@
 #[cfg(test)]
 mod at_least;
 #[cfg(test)]
+mod chains;
+#[cfg(test)]
 mod histories;
 #[cfg(test)]
 mod local;

@@ -4,7 +4,7 @@ ghost use Rattle.std.specs.Prelude.{◌≡◌};
 ghost use mathlib.Core.List.{IsPrefix};
 ghost use Rattle.seg_block.specs.Words.{SameTail, SameFront, tail_part, front_part, published, seen};
 
-use seg_block::{Block, FrontEnd, SegFront, SegTail, TailEnd, own_blocks};
+use seg_block::{Block, FrontEnd, SegFront, SegTail, TailEnd, block_of, own_blocks};
 use std::sync::Wait;
 use std::test::Fail;
 use std::thread;
@@ -118,6 +118,26 @@ fn the_end_that_ends_second_has_the_block_again(rt: HostRuntime) -> Result<(), F
     let (tail, front) = block.part();
     drop(front);
     assert!(rt; matches!(tail.finish(), TailEnd::Last(_)));
+    Ok(())
+}
+
+#[test]
+fn a_note_of_either_end_gives_the_other_the_block(rt: HostRuntime) -> Result<(), Fail> {
+    let (tail, front) = Block::make(rt.alloc(), 3, 16)?.part();
+    let FrontEnd::Early(note) = front.finish() else {
+        assert!(rt; false);
+        return Ok(());
+    };
+    let block = tail.finish_with(note);
+    assert_eq!(rt; block.id(), 3);
+    let (tail, front) = block.part();
+    let TailEnd::Note(note) = tail.finish() else {
+        assert!(rt; false);
+        return Ok(());
+    };
+    let block = block_of(front, TailEnd::Note(note));
+    assert_eq!(rt; block.id(), 3);
+    assert_eq!(rt; block.size(), 16);
     Ok(())
 }
 

@@ -24,10 +24,11 @@ take-prefix xs ys m n p h =
     let short = length_take m xs in
     prefix_take (take m xs) ys n (prefix_trans (take m xs) xs ys (drop m xs, take-append-drop m xs) p) (omega arith)
 
-pub cons_not_prefix : (xs ys : List ℕ) → xs ≡ 0 ∷ [] → ys ≡ 1 ∷ [] → IsPrefix xs ys → ⊥
-cons_not_prefix xs ys a b p =
-    let same : (0 ∷ []) ++ p.0 ≡ 1 ∷ [] = ap (λ (l : List ℕ). l ++ p.0) (sym a) ∙ p.1 ∙ b in
-    let no : Path ℕ 0 1 = ap (λ (l : List ℕ). first l) same in absurd (omega arith)
+-- a list that begins with another has its first item
+pub heads_agree : (xs ys : List ℕ) (x y : ℕ) → xs ≡ x ∷ [] → ys ≡ y ∷ [] → IsPrefix xs ys → x ≡ y
+heads_agree xs ys x y a b p =
+    let same : (x ∷ []) ++ p.0 ≡ y ∷ [] = ap (λ (l : List ℕ). l ++ p.0) (sym a) ∙ p.1 ∙ b in
+    ap (λ (l : List ℕ). first l) same
   where
     first : List ℕ → ℕ
     first [] = 0

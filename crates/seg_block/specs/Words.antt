@@ -91,6 +91,10 @@ acquired f = f.start.log
 abbrev pub marked : Mark → List ℕ
 marked m = m.known.log
 
+-- all that was published of a segment whose tail has ended
+abbrev pub noted : TailNote → List ℕ
+noted n = n.known.log
+
 -- the same end, of the same parting of the same block
 abbrev pub SameTail : SegTail → SegTail → Type 0
 SameTail a b = (tail_part b ≡ tail_part a) × (tail_id b ≡ tail_id a) × (tail_size b ≡ tail_size a)
@@ -114,12 +118,22 @@ IsTheBlock f b = (id_of b ≡ front_id f) × (size_of b ≡ front_size f) × (id
 -- what the tail answers when it ends
 abbrev pub Ends : SegTail → TailEnd → Type 0
 Ends t (OfTail.Last block) = IsBlockOfTail t block
-Ends t (OfTail.Note note) = note_part note ≡ tail_part t
+Ends t (OfTail.Note note) = (note_part note ≡ tail_part t) × (noted note ≡ published t)
+
+-- what holds of the note of a tail that ended first
+abbrev pub IfNote : TailEnd → (TailNote → Type 0) → Type 0
+IfNote (OfTail.Last block) P = Unit {0}
+IfNote (OfTail.Note note) P = P note
 
 -- what the front answers when it ends
 abbrev pub FrontEnds : SegFront → FrontEnd → Type 0
 FrontEnds f (OfFront.Last block) = IsTheBlock f block
 FrontEnds f (OfFront.Early note) = front_note_part note ≡ front_part f
+
+-- the tail of the segment that a front is of ended so
+abbrev pub IsEndOf : SegFront → TailEnd → Type 0
+IsEndOf f (OfTail.Last block) = IsTheBlock f block
+IsEndOf f (OfTail.Note note) = note_part note ≡ front_part f
 
 -- what holds of the note of a front that ended first
 abbrev pub IfEarly : FrontEnd → (FrontNote → Type 0) → Type 0

@@ -43,7 +43,7 @@ pub enum FrontEnd {
 /// That the front ended before the tail.
 #[derive(Drop)]
 pub struct FrontNote {
-    known: Known,
+    pub(crate) known: Known,
     ghost first: { known.first ≡ front ∷ [] },
 }
 

@@ -69,7 +69,7 @@ impl Gate {
     // The end leaves. The one that finds the other's bit set is the last, and owns the block.
     pub(crate) fn leave(&mut self, run: Run, known: Known, bit: u64) -> (u64, Known)
         requires { IsKnownOf self.old known × Leaves self.old run bit }
-        ensures { SameGate self.old self.new × IsKnownOf self.old result.1
+        ensures { SameGate self.old self.new × IsKnownOf self.old result.1 × (result.1.log ≡ self.old.log)
             × IsPrefix known.first result.1.first
             × (result.0 % 4 ≡ 0 → (self.new.role ≡ gone) × (result.1.first ≡ self.old.role ∷ []))
             × (0 < result.0 % 4 → self.new.role ≡ last) }

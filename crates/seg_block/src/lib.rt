@@ -2,6 +2,7 @@
 #![tactic(auto)]
 
 mod block;
+mod both;
 mod front;
 mod gate;
 mod home;
@@ -12,6 +13,7 @@ mod run;
 mod tail;
 
 pub use block::Block;
+pub use both::block_of;
 pub use front::{FrontEnd, FrontNote, SegFront};
-pub use many::own_blocks;
+pub use many::{ids_differ, own_blocks};
 pub use tail::{Mark, SegTail, TailEnd, TailNote};

@@ -1,8 +1,9 @@
 //! Many blocks at once.
 
-ghost use Rattle.std.specs.Prelude.{◌≡◌, ℕ, length, IfOk};
+ghost use Rattle.std.specs.Prelude.{◌≡◌, ℕ, List, length, map, IfOk};
 ghost use Rattle.seg_block.specs.Memory.{IsBlockSize};
-ghost use Rattle.seg_block.specs.Numbered.{AreNumbered};
+ghost use Rattle.seg_block.specs.Numbered.{AreDistinct, AreNumbered};
+ghost use Rattle.seg_block.specs.Words.{id_of};
 
 use crate::block::Block;
 use std::alloc::{AllocError, Global};
@@ -20,3 +21,8 @@ pub fn own_blocks(alloc: Global, segments: usize, segment: usize) -> Result<Vec<
     }
     Ok(blocks)
 }
+
+/// Blocks with numbers in order have different numbers. The function does nothing: what it ensures is the law.
+pub fn ids_differ()
+    ensures { (first size : ℕ) (blocks : List Block) → AreNumbered first size blocks → AreDistinct (map id_of blocks) }
+{}

@@ -9,7 +9,7 @@ ghost use Rattle.seg_block.specs.Rule.{tail};
 ghost use Rattle.seg_block.specs.Gates.{IsKnownOf};
 
 use crate::block::Block;
-use crate::front::SegFront;
+use crate::front::{FrontNote, SegFront};
 use crate::gate::Gate;
 use crate::known::Known;
 use crate::run::{Run, vacate};
@@ -75,7 +75,7 @@ impl Drop for SegTail {
 }
 
 impl SegTail {
-    ghost use Rattle.seg_block.specs.Words.{id_of, size_of, identity_of, tail_size, tail_identity, tail_id, published, draft, spare, marked, tail_part, mark_part, note_part, SameTail, LendsSpare, Ends, seen, front_part};
+    ghost use Rattle.seg_block.specs.Words.{id_of, size_of, identity_of, tail_size, tail_identity, tail_id, published, draft, spare, marked, tail_part, mark_part, note_part, SameTail, LendsSpare, Ends, IfNote, IsBlockOfTail, seen, front_part, front_note_part};
 
     pub(crate) fn start(
         mut gate: Gate,
@@ -192,21 +192,42 @@ impl SegTail {
         self.gate.agree(&mut front.gate);
     }
 
-    /// Ends the tail. A draft is given up.
+    /// Ends the tail. A draft is given up: it is never published.
     pub fn finish(self) -> TailEnd
         ensures { Ends self result }
+    {
+        let known = self.start.again();
+        self.left(known)
+    }
+
+    /// Ends the tail, and gives the block, since the front has ended.
+    pub fn finish_with(self, note: FrontNote) -> Block
+        requires { front_note_part note ≡ tail_part self }
+        ensures { IsBlockOfTail self result }
+    {
+        let FrontNote { known } = note;
+        match self.left(known) {
+            TailEnd::Last(block) => block,
+            TailEnd::Note(_) => unreachable!(),
+        }
+    }
+
+    fn left(self, known: Known) -> TailEnd
+        requires { IsKnownOf self.gate known }
+        ensures end { Ends self result }
+        ensures note { IfNote result (λ note. IsPrefix known.first note.known.first) }
     {
         let SegTail {
             mut gate,
             free,
             drafted: _,
             published: _,
-            start,
+            start: _,
             id,
             size,
             alloc,
         } = self;
-        let (found, known) = gate.leave(vacate(free), start, 1);
+        let (found, known) = gate.leave(vacate(free), known, 1);
         if found % 4 == 0 {
             gate.let_go();
             return TailEnd::Note(TailNote { known });

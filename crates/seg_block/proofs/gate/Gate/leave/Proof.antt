@@ -94,6 +94,6 @@ leave_spec 𝓤 𝓛 𝓜 𝓡 wired =
     flt_i ! n (2 ^ 64) fits $ feq_i ! (List Val) (vint w64 n ∷ []) (vint w64 n ∷ []) refl $ fjoin ! $
     let r : Known.the_row.Denot = record { base = w; names = z; log = log; first = l.1 } in
     use2 𝓛 (‵ ((denote.Struct.Tuple.Tuple (u64 ∷ Known.the_row ∷ [])).own_val (n, r) (pair_val (vint w64 n) none ∷ []))) (pair_made 𝓛 u64 Known.the_row n r (vint w64 n) none) $
-    let Told : Type 0 = SameGate h h' × IsKnownOf h r × IsPrefix k.first l.1 × (n % 4 ≡ 0 → (l.0 ≡ gone) × (l.1 ≡ h.role ∷ [])) × (0 < n % 4 → l.0 ≡ last) in
-    use0 𝓛 (raw (fact 𝓤 Told)) (fact_i 𝓤 Told (emp 𝓤) ((refl, refl), (refl, refl), so.0, so.1, so.2)) $
+    let Told : Type 0 = SameGate h h' × IsKnownOf h r × (r.log ≡ h.log) × IsPrefix k.first l.1 × (n % 4 ≡ 0 → (l.0 ≡ gone) × (l.1 ≡ h.role ∷ [])) × (0 < n % 4 → l.0 ≡ last) in
+    use0 𝓛 (raw (fact 𝓤 Told)) (fact_i 𝓤 Told (emp 𝓤) ((refl, refl), (refl, refl), refl, so.0, so.1, so.2)) $
     returns ! (look_at ! 0 refl) $ free_all ! refl $ keep ! (2 ∷ 3 ∷ 1 ∷ 0 ∷ []) $ by ! (leaves 𝓛 ended hs c y (pair_val (vint w64 n) none) (n, r) (h', (tt, (tt, (tt, tt)))) (tt, (tt, (tt, (tt, tt)))))))))))))))

@@ -1,0 +1,46 @@
+//! What is committed in segments, as a chain of them lends it.
+
+ghost use Rattle.seg_block.specs.Words.{SameTail, published};
+ghost use Rattle.std.specs.Prelude.{◌≡◌};
+
+use pipe_state::{Chain, Inbox};
+use seg_block::{Block, SegTail};
+use span_seq::Spans;
+use std::test::Fail;
+
+// Writes the bytes to the free part and adds them to the draft, if they fit.
+fn append(tail: &mut SegTail, bytes: &[u8])
+    ensures tail { SameTail tail.old tail.new }
+    ensures published { published tail.new ≡ published tail.old }
+{
+    let spare = tail.spare_mut();
+    if bytes.len() <= spare.len() {
+        spare[..bytes.len()].copy_from_slice(bytes);
+    }
+    if bytes.len() <= tail.room() {
+        tail.advance(bytes.len());
+    }
+}
+
+#[test]
+fn what_is_committed_is_lent_where_it_lies(rt: HostRuntime) -> Result<(), Fail> {
+    let alloc = rt.alloc();
+    let (mut tail, front) = Block::make(alloc, 7, 8)?.part();
+    let mut inbox = Inbox::make(alloc, 2)?;
+    let mut chain = Chain::make(alloc, 2)?;
+    append(&mut tail, b"abc");
+    let mark = tail.commit();
+    inbox.put(Some(front), mark, None);
+    chain.fetch(&mut inbox.arrivals);
+    assert_eq!(rt; chain.count(), 1);
+    assert_eq!(rt; chain.span(0), b"abc".as_slice());
+    append(&mut tail, b"de");
+    let mark = tail.commit();
+    inbox.put(None, mark, Some(tail.finish()));
+    assert_eq!(rt; chain.span(0), b"abc".as_slice());
+    chain.fetch(&mut inbox.arrivals);
+    assert_eq!(rt; chain.count(), 1);
+    assert_eq!(rt; chain.span(0), b"abcde".as_slice());
+    assert_eq!(rt; chain.front(0).seen(), b"abcde".as_slice());
+    Ok(())
+}

@@ -1,0 +1,4 @@
+pub mod ListLemmas
+pub mod FetchedLemmas
+pub mod InboxLemmas
+pub mod SpanLemmas

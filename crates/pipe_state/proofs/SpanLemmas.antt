@@ -1,0 +1,32 @@
+-- The spans of a chain.
+use Rattle.std.proofs.Common.{◌≡◌, ◌≤◌, ◌-◌, ℕ, zero, suc, List, [], ◌∷◌, length, take, drop, refl, ap, sym, ◌∙◌, subst, Some}
+use Rattle.std.specs.Prelude.{slice_get, slice_index_or, map}
+use Rattle.std.proofs.lemmas.List.{length-drop}
+use Rattle.std.proofs.Math.Seq.{take-length}
+use Rattle.seg_block.specs.Words.{seen}
+use Rattle.seg_block.specs.declared.front.SegFront.{SegFront}
+use Rattle.pipe_state.specs.Fetched.{all_fetched}
+use Rattle.pipe_state.specs.Chains.{first_len, front_at, spans_of}
+use Rattle.pipe_state.specs.declared.arrival.Link.{Link}
+
+pub first_span : (links : List Link) (f : SegFront) (skip : ℕ) → front_at links 0 ≡ Some f → slice_index_or (spans_of skip (all_fetched links)) 0 [] ≡ drop skip (seen f)
+first_span [] f skip e = cc (e)
+first_span (link ∷ links) f skip e = let same : link.front ≡ f = search (e) in ap (λ g. drop skip (seen g)) same
+
+later_span : (links : List Link) (f : SegFront) (i : ℕ) → front_at links i ≡ Some f → slice_index_or (map (λ s. s.bytes) (all_fetched links)) i [] ≡ seen f
+later_span [] f i e = cc (e)
+later_span (link ∷ links) f zero e = let same : link.front ≡ f = search (e) in ap seen same
+later_span (link ∷ links) f (suc i) e = later_span links f i e
+
+pub next_span : (links : List Link) (f : SegFront) (skip i : ℕ) → (i ≡ 0 → ⊥) → front_at links i ≡ Some f → slice_index_or (spans_of skip (all_fetched links)) i [] ≡ seen f
+next_span [] f skip i some e = cc (e)
+next_span (link ∷ links) f skip zero some e = absurd (some refl)
+next_span (link ∷ links) f skip (suc i) some e = later_span links f i e
+
+pub within_first : (links : List Link) (f : SegFront) (skip : ℕ) → front_at links 0 ≡ Some f → skip ≤ first_len (all_fetched links) → skip ≤ length (seen f)
+within_first [] f skip e within = cc (e)
+within_first (link ∷ links) f skip e within = let same : link.front ≡ f = search (e) in subst (λ g. skip ≤ length (seen g)) same within
+
+pub rest_of_span : (xs ys : List ℕ) (skip : ℕ) → xs ≡ ys → take (length xs - skip) (drop skip xs) ≡ drop skip ys
+rest_of_span xs ys skip e = let n : length (drop skip xs) ≡ length xs - skip = length-drop skip xs in
+    ap (λ k. take k (drop skip xs)) (sym n) ∙ take-length (drop skip xs) ∙ ap (drop skip) e

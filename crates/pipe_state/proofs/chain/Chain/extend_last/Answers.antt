@@ -1,0 +1,30 @@
+use Rattle.std.proofs.Common.{[], ◌∷◌, ◌++◌, sym, ap, subst, ◌∙◌}
+use Rattle.pipe_state.specs.Fetched.{FitsLast, all_fetched, continue_last}
+use Rattle.pipe_state.proofs.chain.Chain.extend_last.Goals as goal
+use Rattle.pipe_state.proofs.ListLemmas.{no_last}
+use Rattle.pipe_state.proofs.FetchedLemmas.{extended, extended_chain, last_link, none_to_fit}
+
+pub learn-requires : goal.learn-requires
+learn-requires c =
+    let fits = subst (λ s. FitsLast (all_fetched s.links) c.args.mark.now c.args.end) (sym c.self.view_is) c.requires in
+    (last_link c.self.inside.links.items c.in-Some.field-0 c.args.mark.now c.args.end (sym c.pop_back.ensures.value ∙ c.in-Some.is) fits).part
+
+pub invariant_of-self : goal.invariant_of-self
+invariant_of-self c =
+    let fits = subst (λ s. FitsLast (all_fetched s.links) c.args.mark.now c.args.end) (sym c.self.view_is) c.requires in
+    let is = ap (λ b. b.items) c.put_behind.ensures ∙ ap (λ b. b.items ++ record { front = c.learn.new.self; end = c.args.end } ∷ []) c.pop_back.ensures.items in
+    extended_chain c.self.inside.links.items c.put_behind.new.ring.items c.self.inside.skip c.in-Some.field-0 c.learn.new.self c.args.mark.now c.args.end
+    (sym c.pop_back.ensures.value ∙ c.in-Some.is) fits is c.learn.ensures.front c.learn.ensures.mark c.learn.ensures.longer c.self.invariant
+
+pub unreachable-requires : goal.unreachable-requires
+unreachable-requires c =
+    let fits = subst (λ s. FitsLast (all_fetched s.links) c.args.mark.now c.args.end) (sym c.self.view_is) c.requires in
+    none_to_fit c.self.inside.links.items c.args.mark.now c.args.end (no_last c.self.inside.links.items (sym c.pop_back.ensures.value ∙ c.in-None.is)) fits
+
+pub returns-clause-fetched : goal.returns-clause-fetched
+returns-clause-fetched c =
+    let fits = subst (λ s. FitsLast (all_fetched s.links) c.args.mark.now c.args.end) (sym c.self.view_is) c.requires in
+    let is = ap (λ b. b.items) c.put_behind.ensures ∙ ap (λ b. b.items ++ record { front = c.learn.new.self; end = c.args.end } ∷ []) c.pop_back.ensures.items in
+    extended c.self.inside.links.items c.put_behind.new.ring.items c.in-Some.field-0 c.learn.new.self c.args.mark.now c.args.end
+    (sym c.pop_back.ensures.value ∙ c.in-Some.is) fits is c.learn.ensures.front c.learn.ensures.mark c.learn.ensures.longer
+    ∙ ap (λ s. continue_last (all_fetched s.links) c.args.mark.now c.args.end) c.self.view_is

@@ -1,0 +1,17 @@
+//! Rings that are never full when something is put in.
+
+ghost use Rattle.std.specs.Prelude.{◌≡◌, ◌<◌, ◌∷◌, ◌++◌, [], length};
+ghost use Rattle.circular_buffer.specs.Buffer.{buffer};
+
+use circular_buffer::HeapCircularBuffer;
+
+/// Puts an item behind the others, for which there is room.
+pub fn put_behind<T: Drop>(ring: &mut HeapCircularBuffer<T>, item: T)
+    requires { length ring.old.items < ring.old.capacity }
+    ensures { ring.new ≡ buffer (ring.old.items ++ item ∷ []) ring.old.capacity }
+{
+    match ring.try_push_back(item) {
+        Ok(()) => {}
+        Err(_) => unreachable!(),
+    }
+}
