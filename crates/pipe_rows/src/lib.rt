@@ -18,6 +18,7 @@ mod player;
 mod replies;
 #[cfg(test)]
 mod segments;
+mod shared_segments;
 #[cfg(test)]
 mod shared;
 #[cfg(test)]

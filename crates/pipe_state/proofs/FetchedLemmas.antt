@@ -1,10 +1,10 @@
 -- Segments that go on, and what the reader has once it has heard of it.
-use Rattle.std.proofs.Common.{◌≡◌, ◌≤◌, ◌<◌, ◌+◌, ◌-◌, ℕ, suc, List, [], ◌∷◌, ◌++◌, length, take, drop, max, refl, ap, sym, ◌∙◌, subst, arith, Option, Some, None}
-use Rattle.std.specs.Prelude.{slice_get, is_some, map, IfSome}
+use Rattle.std.proofs.Common.{◌≡◌, ◌≤◌, ◌+◌, ◌-◌, ℕ, suc, List, [], ◌∷◌, ◌++◌, length, take, drop, max, refl, ap, sym, ◌∙◌, subst, arith, Option, Some, None}
+use Rattle.std.specs.Prelude.{slice_get, is_some, IfSome}
 use Rattle.std.specs.List.{AllByRecursion}
-use Rattle.std.proofs.lemmas.List.{length-append, length-map, map-append}
+use Rattle.std.proofs.lemmas.List.{length-append, map-append}
 use mathlib.Core.List.{IsPrefix}
-use Rattle.circular_buffer.specs.Buffer.{Buffer, buffer, last_item}
+use Rattle.circular_buffer.specs.Buffer.{last_item}
 use Rattle.seg_block.specs.Words.{marked, seen, SameFront}
 use Rattle.seg_block.specs.declared.front.SegFront.{SegFront}
 use Rattle.seg_block.specs.declared.tail.Mark.{Mark}

@@ -1,8 +1,7 @@
 -- What was done to a segment, put into the inbox.
-use Rattle.std.proofs.Common.{◌≡◌, ◌<◌, ◌≤◌, ◌+◌, ◌-◌, ℕ, List, [], ◌∷◌, ◌++◌, length, take, refl, ap, sym, ◌∙◌, subst, arith, Option, Some, None}
+use Rattle.std.proofs.Common.{◌≡◌, ◌<◌, ◌≤◌, ◌-◌, ℕ, List, [], ◌∷◌, ◌++◌, length, take, refl, ap, sym, ◌∙◌, subst, arith, Option, Some, None}
 use Rattle.std.proofs.lemmas.List.{length-append}
 use Rattle.circular_buffer.specs.Buffer.{Buffer, buffer, last_item}
-use Rattle.seg_block.specs.Words.{marked}
 use Rattle.seg_block.specs.declared.front.SegFront.{SegFront}
 use Rattle.seg_block.specs.declared.tail.Mark.{Mark}
 use Rattle.seg_block.specs.declared.tail.TailEnd.{TailEnd}

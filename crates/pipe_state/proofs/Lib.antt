@@ -2,3 +2,12 @@ pub mod ListLemmas
 pub mod FetchedLemmas
 pub mod InboxLemmas
 pub mod SpanLemmas
+pub mod ReleaseLemmas
+pub mod SendingLemmas
+pub mod PlaceLemmas
+pub mod SegmentsLemmas
+pub mod GoneLemmas
+pub mod FreeLemmas
+pub mod LyingLemmas
+pub mod WritingLemmas
+pub mod RunLemmas

@@ -1,6 +1,6 @@
 -- The spans of a chain.
 use Rattle.std.proofs.Common.{◌≡◌, ◌≤◌, ◌-◌, ℕ, zero, suc, List, [], ◌∷◌, length, take, drop, refl, ap, sym, ◌∙◌, subst, Some}
-use Rattle.std.specs.Prelude.{slice_get, slice_index_or, map}
+use Rattle.std.specs.Prelude.{slice_index_or, map}
 use Rattle.std.proofs.lemmas.List.{length-drop}
 use Rattle.std.proofs.Math.Seq.{take-length}
 use Rattle.seg_block.specs.Words.{seen}

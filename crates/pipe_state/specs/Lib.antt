@@ -1,2 +1,12 @@
 pub mod Fetched
 pub mod Chains
+pub mod Released
+pub mod Sides
+pub mod Sending
+pub mod Segments
+pub mod Lending
+pub mod Current
+pub mod CurrentLending
+pub mod Writing
+pub mod WritingLending
+pub mod Lying

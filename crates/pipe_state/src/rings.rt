@@ -15,3 +15,14 @@ pub fn put_behind<T: Drop>(ring: &mut HeapCircularBuffer<T>, item: T)
         Err(_) => unreachable!(),
     }
 }
+
+/// Puts an item before the others, for which there is room.
+pub fn put_before<T: Drop>(ring: &mut HeapCircularBuffer<T>, item: T)
+    requires { length ring.old.items < ring.old.capacity }
+    ensures { ring.new ≡ buffer (item ∷ ring.old.items) ring.old.capacity }
+{
+    match ring.try_push_front(item) {
+        Ok(()) => {}
+        Err(_) => unreachable!(),
+    }
+}

@@ -105,7 +105,7 @@ impl SegTail {
 
     /// How many bytes are free: the size less the published bytes and the draft.
     pub fn room(&self) -> usize
-        ensures value { result ≡ tail_size self.now - (length (published self.now) + length (draft self.now)) }
+        ensures value { length (published self.now) + length (draft self.now) + result ≡ tail_size self.now }
         ensures spare { result ≡ length (spare self.now) }
     {
         self.free.len() - self.drafted

@@ -1,4 +1,4 @@
-use Rattle.std.proofs.Common.{◌≡◌, sym, ap, subst, ◌∙◌}
+use Rattle.std.proofs.Common.{sym, ap, subst, ◌∙◌}
 use Rattle.pipe_state.specs.Fetched.{AllFit, arrive, put}
 use Rattle.pipe_state.proofs.inbox.Inbox.put.Goals as goal
 use Rattle.pipe_state.proofs.InboxLemmas.{puts}

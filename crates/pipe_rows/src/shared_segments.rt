@@ -1,0 +1,43 @@
+//! Segments between a writer's and a reader's part.
+
+ghost use Rattle.std.specs.Prelude.{◌≡◌, ◌∷◌, [], Some, IfSome, IsSome};
+
+use pipe_state::{Chain, Filling, Reading, Segments};
+use seg_block::own_blocks;
+use span_seq::Spans;
+use std::test::Fail;
+
+// Writes the bytes to the free part and adds them to the draft, if they fit.
+fn append(filling: &mut Filling, bytes: &[u8])
+    ensures label { filling.new.label ≡ filling.old.label }
+    ensures bytes { filling.new.bytes ≡ filling.old.bytes }
+    ensures sent { filling.new.sent ≡ filling.old.sent }
+{
+    let spare = filling.spare_mut();
+    if bytes.len() <= spare.len() {
+        spare[..bytes.len()].copy_from_slice(bytes);
+    }
+    if bytes.len() <= filling.room() {
+        filling.advance(bytes.len());
+    }
+}
+
+#[test]
+fn segments_are_filled_lent_and_brought_home(rt: HostRuntime) -> Result<(), Fail> {
+    let alloc = rt.alloc();
+    let mut blocks = own_blocks(alloc, 2, 64)?;
+    let (mut segments, half, mut writer) = Segments::make(alloc, &mut blocks)?;
+    let chain = Chain::make(alloc, 2)?;
+    let mut reading = Reading { chain, half };
+    let Some(mut first) = segments.take(1, &mut writer) else {
+        return Err(Fail::new("no block is at home"));
+    };
+    append(&mut first, b"abc");
+    segments.commit(&mut first, &mut writer);
+    append(&mut first, b"de");
+    segments.finish(first, &mut writer);
+    segments.fetch(&mut reading);
+    assert_eq!(rt; reading.chain.count(), 1);
+    assert_eq!(rt; reading.chain.span(0), b"abcde".as_slice());
+    Ok(())
+}

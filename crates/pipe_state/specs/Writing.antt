@@ -1,0 +1,38 @@
+-- What of a pipe's segments lies with the writer.
+use Rattle.std.specs.Prelude.{◌≡◌, ◌≤◌, ◌<◌, ◌+◌, ◌*◌, ◌^◌, ℕ, List, ◌++◌, length, drop, map}
+use Rattle.std.specs.List.{AllByRecursion}
+use Rattle.circular_buffer.specs.Buffer.{Buffer}
+use Rattle.pipe_core.specs.History.{Run, bytes_of}
+use Rattle.pipe_state.specs.Sides.{FillingState, WriterHas, IsUnsent, unfinished_of}
+use Rattle.pipe_state.specs.Current.{HasDraft, IsSound, drafts_in, list_of}
+use Rattle.pipe_state.specs.declared.filling.Filling.{Filling}
+use Rattle.pipe_state.specs.declared.current.Current.{Current}
+
+-- What is drafted, run by run, the free part behind it, or nothing where there is no segment, which segments it has, by which name
+-- what the ends share knows it, and how many segments of how many bytes the pipe has.
+pub record WritingState : Type 0 where
+  pub draft : List Run
+  pub free : List ℕ
+  pub has : WriterHas
+  pub name : ℕ
+  pub count : ℕ
+  pub size : ℕ
+
+-- It has so many bytes, and no more are drafted.
+abbrev pub IsSized : ℕ → FillingState → Type 0
+IsSized size f = (f.label.size ≡ size) × (length f.draft ≤ size)
+
+-- It was left with a draft, and for want of room for a hint.
+abbrev pub IsLeft : ℕ → FillingState → Type 0
+IsLeft hint f = HasDraft f × (f.label.size < length f.bytes + length f.draft + hint)
+
+pub record IsWriting (left : Buffer Filling) (current : Current) (drafted count size : ℕ) (has : WriterHas) : Type 0 where
+  pub told : has.segments ≡ map unfinished_of (left.items ++ list_of current)
+  pub unsent : AllByRecursion IsUnsent (drop 1 has.segments)
+  pub sound : IsSound left.items current
+  pub left_full : AllByRecursion (IsLeft has.hint) left.items
+  pub sizes : AllByRecursion (IsSized size) (left.items ++ list_of current)
+  pub counted : drafted ≡ length (bytes_of (drafts_in (left.items ++ list_of current)))
+  pub room : left.capacity ≡ count
+  pub few : length (left.items ++ list_of current) ≤ count
+  pub small : count * size ≤ 2 ^ 62

@@ -1,0 +1,192 @@
+//! The writer's part.
+
+ghost use Rattle.std.specs.Prelude.{◌≡◌, ◌≤◌, ◌<◌, ◌+◌, ◌*◌, ◌^◌, ◌++◌, ◌∷◌, [], length, map, take, drop, IfOk};
+ghost use Rattle.std.specs.List.{AllByRecursion};
+ghost use Rattle.circular_buffer.specs.Buffer.{buffer};
+ghost use Rattle.pipe_core.specs.History.{bytes_of, run_in};
+ghost use Rattle.pipe_core.specs.Lends.{joined};
+ghost use Rattle.pipe_state.specs.Lying.{HaveOwnIds, runs_of};
+ghost use Rattle.pipe_state.specs.Segments.{SendsOnly, writes_none};
+ghost use Rattle.pipe_state.specs.Sides.{unfinished_of};
+ghost use Rattle.pipe_state.specs.Current.{HasDraft, IsCommitted, drafts_in, list_of};
+
+use crate::current::Current;
+use crate::filling::Filling;
+use crate::segments::Segments;
+use crate::sides::WriterSide;
+use circular_buffer::HeapCircularBuffer;
+use ghost_halves::PrivateHalf;
+use std::alloc::{AllocError, Global};
+use std::marker::Model;
+
+/// The segments that the writer has not finished, which nobody else reaches.
+#[derive(Drop)]
+pub struct Writing {
+    // Those that were left for want of room, each with a draft.
+    left: HeapCircularBuffer<Filling>,
+    pub(crate) current: Current,
+    drafted: u64,
+    count: usize,
+    size: usize,
+    half: PrivateHalf<WriterSide>,
+}
+
+impl Model for Writing {
+    ghost use Rattle.std.specs.Prelude.{◌++◌};
+    ghost use Rattle.pipe_state.specs.Current.{drafts_in, free_in, list_of};
+    ghost use Rattle.pipe_state.specs.Writing.{WritingState, IsWriting};
+
+    ghost Value = { WritingState };
+
+    ghost view = { λ w. record {
+      draft = drafts_in (w.left.items ++ list_of w.current);
+      free = free_in w.current;
+      has = w.half.value;
+      name = w.half.name;
+      count = w.count;
+      size = w.size;
+    } };
+
+    ghost invariant = { λ w. IsWriting w.left w.current w.drafted w.count w.size w.half.value };
+}
+
+impl Writing {
+    /// The part of a writer of a pipe with `count` segments of `size` bytes. It has no segment yet.
+    pub fn make(
+        alloc: Global,
+        count: usize,
+        size: usize,
+        half: PrivateHalf<WriterSide>,
+    ) -> Result<Writing, AllocError>
+        requires none { half.value ≡ writes_none }
+        requires small { count * size ≤ 2 ^ 62 }
+        ensures { IfOk result (λ w. w ≡ record { draft = []; free = []; has = writes_none; name = half.name; count = count; size = size }) }
+    {
+        Ok(Writing {
+            left: HeapCircularBuffer::with_capacity(alloc, count)?,
+            current: Current::Untaken(Vec::new(alloc)),
+            drafted: 0,
+            count,
+            size,
+            half,
+        })
+    }
+
+    /// How many bytes are drafted.
+    pub fn draft_len(&self) -> u64
+        ensures { result ≡ length (bytes_of self.now.draft) }
+    {
+        self.drafted
+    }
+
+    /// How many bytes are free.
+    pub fn free_len(&self) -> usize
+        ensures { result ≡ length self.now.free }
+    {
+        match &self.current {
+            Current::Filling(filling) => filling.room(),
+            Current::Untaken(_) => 0,
+        }
+    }
+
+    /// Takes the first `n` bytes of the free part to the end of the draft.
+    pub fn advance(&mut self, n: usize)
+        requires { n ≤ length self.old.free }
+        ensures draft { bytes_of self.new.draft ≡ bytes_of self.old.draft ++ take n self.old.free }
+        ensures free { self.new.free ≡ drop n self.old.free }
+        ensures others { self.new ≡ record self.old { draft = self.new.draft; free = self.new.free } }
+    {
+        self.current.advance(n);
+        self.drafted += n as u64;
+    }
+
+    /// The draft is committed, and the segments that were left are finished.
+    pub fn commit(&mut self, segments: &mut Segments)
+        requires pair { self.old.name ≡ segments.old.writer_name }
+        requires own { HaveOwnIds segments.old.blocks }
+        ensures runs { runs_of segments.new.live ≡ joined (runs_of segments.old.live ++ self.old.draft) }
+        ensures segments { SendsOnly segments.old segments.new }
+        ensures writing { self.new ≡ record self.old { draft = []; has = self.new.has } }
+        ensures hint { self.new.has.hint ≡ self.old.has.hint }
+    {
+        finish_left(&mut self.left, segments, &mut self.half);
+        commit_current(&mut self.current, segments, &mut self.half);
+        self.drafted = 0;
+    }
+}
+
+// The segments that were left are finished, their drafts committed.
+fn finish_left(
+    left: &mut HeapCircularBuffer<Filling>,
+    segments: &mut Segments,
+    half: &mut PrivateHalf<WriterSide>,
+)
+    requires pair { half.old.name ≡ segments.old.writer_name }
+    requires first { half.old.value.segments ≡ map unfinished_of left.old.items ++ drop (length left.old.items) half.old.value.segments }
+    requires drafted { AllByRecursion HasDraft left.old.items }
+    requires own { HaveOwnIds segments.old.blocks }
+    ensures left { left.new ≡ buffer [] left.old.capacity }
+    ensures runs { runs_of segments.new.live ≡ joined (runs_of segments.old.live ++ drafts_in left.old.items) }
+    ensures segments { SendsOnly segments.old segments.new }
+    ensures half { half.new.value ≡ record half.old.value { segments = drop (length left.old.items) half.old.value.segments } }
+    ensures pair { half.new.name ≡ segments.new.writer_name }
+    ensures name { half.new.name ≡ half.old.name }
+{
+    segments.order();
+    for _ in 0..left.len() {
+        match left.pop_front() {
+            Some(filling) => {
+                segments.order();
+                segments.finish(filling, half);
+            }
+            None => unreachable!(),
+        }
+    }
+}
+
+// The draft in the one segment that is not finished is committed.
+fn commit_current(
+    current: &mut Current,
+    segments: &mut Segments,
+    half: &mut PrivateHalf<WriterSide>,
+)
+    requires pair { half.old.name ≡ segments.old.writer_name }
+    requires only { half.old.value.segments ≡ map unfinished_of (list_of current.old) }
+    requires own { HaveOwnIds segments.old.blocks }
+    ensures runs { runs_of segments.new.live ≡ joined (runs_of segments.old.live ++ drafts_in (list_of current.old)) }
+    ensures segments { SendsOnly segments.old segments.new }
+    ensures half { half.new.value ≡ record half.old.value { segments = map unfinished_of (list_of current.new) } }
+    ensures current { IsCommitted current.old current.new }
+    ensures pair { half.new.name ≡ segments.new.writer_name }
+    ensures name { half.new.name ≡ half.old.name }
+{
+    segments.order();
+    match current {
+        Current::Filling(filling) => commit_filling(filling, segments, half),
+        Current::Untaken(_) => {}
+    }
+}
+
+// The same of that segment.
+fn commit_filling(
+    filling: &mut Filling,
+    segments: &mut Segments,
+    half: &mut PrivateHalf<WriterSide>,
+)
+    requires pair { half.old.name ≡ segments.old.writer_name }
+    requires only { half.old.value.segments ≡ unfinished_of filling.old ∷ [] }
+    requires own { HaveOwnIds segments.old.blocks }
+    ensures runs { runs_of segments.new.live ≡ joined (runs_of segments.old.live ++ run_in filling.old.label.id filling.old.draft) }
+    ensures segments { SendsOnly segments.old segments.new }
+    ensures half { half.new.value ≡ record half.old.value { segments = unfinished_of filling.new ∷ [] } }
+    ensures label { filling.new.label ≡ filling.old.label }
+    ensures spare { filling.new.spare ≡ filling.old.spare }
+    ensures draft { filling.new.draft ≡ [] }
+    ensures pair { half.new.name ≡ segments.new.writer_name }
+    ensures name { half.new.name ≡ half.old.name }
+{
+    segments.order();
+    if filling.draft_len() > 0 {
+        segments.commit(filling, half);
+    }
+}
