@@ -8,6 +8,7 @@ pub Takes-trans : (a b c : SinkState) (xs ys : List ℕ) → Takes a xs b → Ta
 Takes-trans a b c xs ys first second = record {
   taken = Appends-trans a.written b.written c.written xs ys first.taken second.taken;
   unfailed = second.unfailed ∙ first.unfailed;
+  same = second.same ∙ first.same;
 }
 
 -- a front of a front
@@ -18,6 +19,7 @@ front_more a b xs ys count f = record {
   counted = f.counted;
   taken = f.taken;
   risen = f.risen;
+  same = f.same;
 }
 
 -- a front behind what was taken
@@ -28,4 +30,5 @@ front_behind a b c xs ys count t f = record {
   counted = omega (arith, f.counted, length-append xs f.front);
   taken = Appends-trans a.written b.written c.written xs f.front t.taken f.taken;
   risen = rw (← t.unfailed) f.risen;
+  same = f.same ∙ t.same;
 }

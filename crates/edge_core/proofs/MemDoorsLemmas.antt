@@ -1,5 +1,5 @@
 -- What is still to be taken stays untouched, and what doors in memory tell is as they were made.
-use Rattle.std.proofs.Common.{◌≡◌, inl, inr, ℕ, false, List, [], ◌∷◌, Option, Some, All, IfSome, map, refl, sym, ap, subst}
+use Rattle.std.proofs.Common.{◌≡◌, inl, inr, ℕ, false, List, [], ◌∷◌, Option, Some, All, IfSome, map, refl, sym, ap, ◌∙◌, subst}
 use Rattle.std.proofs.lemmas.Bool.{cases_Bool}
 use Rattle.std.proofs.lemmas.List.Elements.{All-cons, All-head, All-tail, All-map, All-weaker}
 use Rattle.std.specs.Str.{bytes_eq}
@@ -7,7 +7,7 @@ use Rattle.std.specs.Prelude.{String}
 use Rattle.std.specs.declared.alloc.Global.{Global}
 use Rattle.edge_core.specs.Doors.{Named, OpensInlet, OpensOutlet, content_of}
 use Rattle.edge_core.specs.MemDoors.{IsFresh, MemDoorsState, mem_doors_state, name_of, name_told, unopened, with_inlet_out, with_outlet_out}
-use Rattle.edge_core.specs.MemSink.{MemSinkState, mem_sink_state}
+use Rattle.edge_core.specs.MemSink.{MemSinkState, mem_sink_state, opened_by}
 use Rattle.edge_core.specs.MemSource.{MemSourceState, mem_source_state}
 use Rattle.edge_core.specs.Names.{IsFreshSink, IsFreshSource, IsUntouched, NamedState, inlet_of, inlet_taken, named_with, outlet_of, outlet_taken, with_changed, without_inlet, without_outlet}
 use Rattle.edge_core.specs.Plan.{PlanState, plan_of}
@@ -66,15 +66,16 @@ opens_inlet before name source names plan returns all is taken kept out =
     }
 
 -- A name's sink was taken, and counted as out.
-pub opens_outlet : (before : MemDoorsState) (name : List ℕ) (sink : MemSinkState) (names : List NamedState) (plan : PlanState) (returns : ReturnsState)
+pub opens_outlet : (before : MemDoorsState) (name : List ℕ) (sink opened : MemSinkState) (names : List NamedState) (plan : PlanState) (returns : ReturnsState)
     → All IsUntouched before.names → outlet_of name before.names ≡ Some sink → names ≡ without_outlet name before.names
-    → plan.faults ≡ before.plan.faults → returns ≡ with_outlet_out before.returns
-    → OpensOutlet (mem_doors_state before) (mem_sink_state sink) (mem_doors_state (record before { names = names; plan = plan; returns = returns }))
-opens_outlet before name sink names plan returns all is taken kept out =
+    → plan.faults ≡ before.plan.faults → returns ≡ with_outlet_out before.returns → opened ≡ opened_by name sink
+    → OpensOutlet (mem_doors_state before) name (mem_sink_state opened) (mem_doors_state (record before { names = names; plan = plan; returns = returns }))
+opens_outlet before name sink opened names plan returns all is taken kept out named =
     let fresh = outlet_fresh name before.names sink all is in
     record {
-      unfailed = fresh.1;
-      empty = ap (λ (bytes : List ℕ). Some bytes) fresh.0;
+      unfailed = ap (λ (s : MemSinkState). s.plan.faults) named ∙ fresh.1;
+      empty = ap (λ (s : MemSinkState). Some s.written) named ∙ ap (λ (bytes : List ℕ). Some bytes) fresh.0;
+      named = ap (λ (s : MemSinkState). s.name) named;
       opened = rw (taken, kept, out, told_changed outlet_taken (λ known. refl) name before.names) refl;
     }
 

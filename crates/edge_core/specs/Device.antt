@@ -1,4 +1,4 @@
--- What a contract sees of a device: its bytes, where it tells them, and its count of faults.
+-- What a contract sees of a device: its bytes, where it tells them, its count of faults, and of a sink by which name it was opened.
 use Rattle.std.specs.Prelude.{ℕ, ◌≡◌, ◌<◌, ◌-◌, ◌^◌, ◌⊎◌, List, length, Option}
 use mathlib.Core.List.{IsPrefix}
 use Rattle.std.specs.Io.KnownBytes.{Appends, Consumes, Keeps}
@@ -8,10 +8,12 @@ pub record SourceState : Type 0 where
   pub left : Option (List ℕ)
   pub faults : ℕ
 
--- The bytes that a sink was given, or None where it doesn't tell, and how many of its calls have failed.
+-- The bytes that a sink was given, or None where it doesn't tell, how many of its calls have failed, and the name by which doors
+-- opened it, or None where it was opened by none or the doors don't tell. No call of a sink changes its name.
 pub record SinkState : Type 0 where
   pub written : Option (List ℕ)
   pub faults : ℕ
+  pub name : Option (List ℕ)
 
 -- A count of faults has risen. A count that stands at its greatest value may have counted more.
 abbrev pub HasRisen : ℕ → ℕ → Type 0
@@ -35,11 +37,13 @@ pub record Fails (before after : SourceState) : Type 0 where
 pub record Takes (before : SinkState) (bytes : List ℕ) (after : SinkState) : Type 0 where
   pub taken : Appends before.written after.written bytes
   pub unfailed : after.faults ≡ before.faults
+  pub same : after.name ≡ before.name
 
 -- A call of a sink failed, and nothing was written by it.
 pub record SinkFails (before after : SinkState) : Type 0 where
   pub kept : Keeps before.written after.written
   pub risen : HasRisen before.faults after.faults
+  pub same : after.name ≡ before.name
 
 -- Calls of a sink put the first `count` of these bytes at the end of what was written, and then one of them failed.
 pub record TakesFront (before : SinkState) (bytes : List ℕ) (count : ℕ) (after : SinkState) : Type 0 where
@@ -48,3 +52,4 @@ pub record TakesFront (before : SinkState) (bytes : List ℕ) (count : ℕ) (aft
   pub counted : count ≡ length front
   pub taken : Appends before.written after.written front
   pub risen : HasRisen before.faults after.faults
+  pub same : after.name ≡ before.name

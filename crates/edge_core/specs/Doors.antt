@@ -64,10 +64,11 @@ pub record Accepts (before : DoorsState) (source : SourceState) (after : DoorsSt
   pub first : IfSome before.told (λ told. HasBytes source (slice_get told.incoming 0))
   pub opened : after ≡ record before { inlets_out = before.inlets_out + 1; told = option_map without_first before.told }
 
--- The doors handed out a sink, to which nothing was written and where no call has failed.
-pub record OpensOutlet (before : DoorsState) (sink : SinkState) (after : DoorsState) : Type 0 where
+-- The doors handed out the sink of a name, or of an address, to which nothing was written and where no call has failed.
+pub record OpensOutlet (before : DoorsState) (name : List ℕ) (sink : SinkState) (after : DoorsState) : Type 0 where
   pub unfailed : sink.faults ≡ 0
   pub empty : IfSome before.told (λ _. sink.written ≡ Some [])
+  pub named : IfSome before.told (λ _. sink.name ≡ Some name)
   pub opened : after ≡ record before { outlets_out = before.outlets_out + 1 }
 
 -- There are now connections to accept.

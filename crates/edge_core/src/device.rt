@@ -24,7 +24,7 @@ pub trait Source {
 
 /// Where bytes go.
 pub trait Sink {
-    /// The bytes that it was given, where it tells them, and how many of its calls have failed.
+    /// The bytes that it was given, where it tells them, how many of its calls have failed, and by which name it was opened.
     ghost state: { Self → SinkState };
 
     /// Writes from the front of `piece`, and answers how many bytes, at least one where there is one.

@@ -36,7 +36,7 @@ pub trait Doors {
 
     /// Opens the sink that belongs to `name`.
     fn outlet(&mut self, alloc: Global, name: &str) -> Result<Self::Outlet, DoorError>
-        ensures opened { IfOk result (λ outlet. OpensOutlet (state self.old) (Self.Outlet.state outlet) (state self.new)) }
+        ensures opened { IfOk result (λ outlet. OpensOutlet (state self.old) name.now (Self.Outlet.state outlet) (state self.new)) }
         ensures refused { IfErr result (λ error. FailsWith error (state self.old) (state self.new)) };
 
     /// Listens at `address`, so that connections to it can be accepted.
@@ -52,7 +52,7 @@ pub trait Doors {
 
     /// Connects to `address`, and opens a sink there.
     fn connect(&mut self, alloc: Global, address: &str) -> Result<Self::Outlet, DoorError>
-        ensures opened { IfOk result (λ outlet. OpensOutlet (state self.old) (Self.Outlet.state outlet) (state self.new)) }
+        ensures opened { IfOk result (λ outlet. OpensOutlet (state self.old) address.now (Self.Outlet.state outlet) (state self.new)) }
         ensures refused { IfErr result (λ error. FailsWith error (state self.old) (state self.new)) };
 
     /// Takes back a source that is done. One with a fault is counted.

@@ -1,9 +1,9 @@
 //! Doors in memory, whose openings fail as planned.
 
-ghost use Rattle.std.specs.Prelude.{◌≡◌, ◌≢◌, ◌↔◌, ◌⊎◌, ◌-◌, ◌∷◌, ◌++◌, [], true, false, All, map, IsErrOf, IsTrue, OnOk, IfOk, IfErr};
+ghost use Rattle.std.specs.Prelude.{◌≡◌, ◌≢◌, ◌↔◌, ◌⊎◌, ◌-◌, ◌∷◌, ◌++◌, [], true, false, All, drop, map, option_map, slice_get, string_bytes, IsErrOf, IsTrue, OnOk, IfOk, IfErr};
 ghost use Rattle.edge_core.specs.Doors.{OpensInlet, OpensOutlet, Listens, Accepts, FailsWith, TakesBackInlet, TakesBackOutlet, an_inlet, an_outlet};
 ghost use Rattle.edge_core.specs.MemDoors.{all_differ, mem_doors_state, plan_after, with_inlet_out, with_outlet_out, IsFresh, name_of, unopened};
-ghost use Rattle.edge_core.specs.MemSink.{mem_sink_state};
+ghost use Rattle.edge_core.specs.MemSink.{mem_sink_state, opened_by};
 ghost use Rattle.edge_core.specs.MemSource.{mem_source_state};
 ghost use Rattle.edge_core.specs.Names.{IsFreshSource, IsFreshSink, inlet_of, outlet_of, named_with, without_inlet, without_outlet};
 ghost use Rattle.edge_core.specs.Plan.{plan_of, FailsNext, after_call};
@@ -96,6 +96,13 @@ impl MemDoors {
     }
 }
 
+// A name as a sink takes it, of which it keeps what contracts see.
+fn seen(alloc: Global, name: &str) -> Result<Option<String>, AllocError>
+    ensures { IfOk result (λ seen. option_map string_bytes seen ≡ Some name.now) }
+{
+    Ok(Some(String::from_str(alloc, name)?))
+}
+
 impl Doors for MemDoors {
     type Inlet = MemSource;
 
@@ -133,16 +140,16 @@ impl Doors for MemDoors {
         }
     }
 
-    fn outlet(&mut self, _alloc: Global, name: &str) -> Result<MemSink, DoorError>
+    fn outlet(&mut self, alloc: Global, name: &str) -> Result<MemSink, DoorError>
         // As any doors.
         ensures opened { IfOk result (λ outlet.
-            OpensOutlet (mem_doors_state self.old) (mem_sink_state outlet) (mem_doors_state self.new)) }
+            OpensOutlet (mem_doors_state self.old) name.now (mem_sink_state outlet) (mem_doors_state self.new)) }
         ensures refused { IfErr result (λ error.
             FailsWith error (mem_doors_state self.old) (mem_doors_state self.new)) }
 
         // As planned.
         ensures fails { IsErrOf result DoorError.Failed ↔ (FailsNext self.old.plan ⊎ (outlet_of name.now self.old.names ≡ None)) }
-        ensures gives { IfOk result (λ outlet. outlet_of name.now self.old.names ≡ Some outlet) }
+        ensures gives { IfOk result (λ outlet. option_map (opened_by name.now) (outlet_of name.now self.old.names) ≡ Some outlet) }
         ensures after { OnOk result (self.new ≡ record self.old {
           names = without_outlet name.now self.old.names;
           plan = after_call self.old.plan;
@@ -154,11 +161,17 @@ impl Doors for MemDoors {
         let Ok(()) = self.plan.start_call(!is_there) else {
             return Err(DoorError::Failed);
         };
+        let Ok(name_seen) = seen(alloc, name) else {
+            return Err(DoorError::OutOfMemory);
+        };
         let Ok(()) = self.returns.lend_outlet() else {
             return Err(DoorError::OutOfMemory);
         };
         match self.names.take_outlet(name) {
-            Some(outlet) => Ok(outlet),
+            Some(mut outlet) => {
+                outlet.set_name(&name_seen);
+                Ok(outlet)
+            }
             None => unreachable!(),
         }
     }
@@ -212,18 +225,18 @@ impl Doors for MemDoors {
         }
     }
 
-    fn connect(&mut self, _alloc: Global, address: &str) -> Result<MemSink, DoorError>
+    fn connect(&mut self, alloc: Global, address: &str) -> Result<MemSink, DoorError>
         // As any doors.
         ensures opened { IfOk result (λ outlet.
-            OpensOutlet (mem_doors_state self.old) (mem_sink_state outlet) (mem_doors_state self.new)) }
+            OpensOutlet (mem_doors_state self.old) address.now (mem_sink_state outlet) (mem_doors_state self.new)) }
         ensures refused { IfErr result (λ error.
             FailsWith error (mem_doors_state self.old) (mem_doors_state self.new)) }
 
         // As planned.
         ensures fails { IsErrOf result DoorError.Failed ↔ (FailsNext self.old.plan ⊎ (self.old.connected ≡ [])) }
-        ensures gives { IfOk result (λ outlet. self.old.connected ≡ outlet ∷ self.new.connected) }
+        ensures gives { IfOk result (λ outlet. option_map (opened_by address.now) (slice_get self.old.connected 0) ≡ Some outlet) }
         ensures after { OnOk result (self.new ≡ record self.old {
-          connected = self.new.connected;
+          connected = drop 1 self.old.connected;
           plan = after_call self.old.plan;
           returns = with_outlet_out self.old.returns;
         }) }
@@ -233,11 +246,17 @@ impl Doors for MemDoors {
         let Ok(()) = self.plan.start_call(!is_there) else {
             return Err(DoorError::Failed);
         };
+        let Ok(address_seen) = seen(alloc, address) else {
+            return Err(DoorError::OutOfMemory);
+        };
         let Ok(()) = self.returns.lend_outlet() else {
             return Err(DoorError::OutOfMemory);
         };
         match self.connected.pop_front() {
-            Some(outlet) => Ok(outlet),
+            Some(mut outlet) => {
+                outlet.set_name(&address_seen);
+                Ok(outlet)
+            }
             None => unreachable!(),
         }
     }

@@ -1,6 +1,6 @@
 //! A sink in memory whose room is limited, and whose writes are cut short and fail as planned.
 
-ghost use Rattle.std.specs.Prelude.{◌≡◌, ◌<◌, ◌≤◌, ◌↔◌, ◌⊎◌, [], ◌++◌, length, take, min, IsErr, OnErr, OnOk, IfOk};
+ghost use Rattle.std.specs.Prelude.{◌≡◌, ◌<◌, ◌≤◌, ◌↔◌, ◌⊎◌, [], ◌++◌, length, take, min, option_map, string_bytes, None, IsErr, OnErr, OnOk, IfOk};
 ghost use Rattle.edge_core.specs.Device.{Takes, SinkFails};
 ghost use Rattle.edge_core.specs.MemSink.{mem_sink_state, room_left, LacksRoom};
 ghost use Rattle.edge_core.specs.Plan.{plan_of, FailsNext, cut_to, after_call, after_fault, after_transfer};
@@ -9,22 +9,30 @@ use crate::device::{Failed, Sink};
 use crate::plan::Plan;
 use std::alloc::{AllocError, Global};
 use std::marker::Model;
+use std::snapshot::Snapshot;
 
 /// A sink that keeps what it is given, takes short counts and fails where it is told to.
-#[derive(Debug, Drop)]
+// Its name is known to contracts alone.
+#[derive(Drop)]
 pub struct MemSink {
     written: Vec<u8>,
     room: usize,
     plan: Plan,
+    name: Snapshot<Option<String>>,
 }
 
 impl Model for MemSink {
-    ghost use Rattle.std.specs.Prelude.{◌≤◌, vec_len, vec_capacity};
+    ghost use Rattle.std.specs.Prelude.{◌≤◌, option_map, string_bytes, vec_len, vec_capacity};
     ghost use Rattle.edge_core.specs.MemSink.{MemSinkState};
 
     ghost Value = { MemSinkState };
 
-    ghost view = { λ sink. record { written = sink.written.items; room = sink.room; plan = sink.plan } };
+    ghost view = { λ sink. record {
+      written = sink.written.items;
+      room = sink.room;
+      plan = sink.plan;
+      name = option_map string_bytes sink.name.value;
+    } };
 
     ghost invariant = { λ sink. (vec_len sink.written ≤ sink.room) × (sink.room ≤ vec_capacity sink.written) };
 }
@@ -43,13 +51,20 @@ impl MemSink {
         fails: Vec<u64>,
     ) -> Result<Self, AllocError>
         ensures { IfOk result (λ sink.
-            sink ≡ record { written = []; room = room; plan = plan_of caps.items fails.items }) }
+            sink ≡ record { written = []; room = room; plan = plan_of caps.items fails.items; name = None }) }
     {
         Ok(MemSink {
             written: Vec::with_capacity(alloc, room)?,
             room,
             plan: Plan::new(caps, fails),
+            name: Snapshot::of(&None),
         })
+    }
+
+    pub(crate) fn set_name(&mut self, name: &Option<String>)
+        ensures { self.new ≡ record self.old { name = option_map string_bytes name.now } }
+    {
+        self.name = Snapshot::of(name);
     }
 
     /// What was written.

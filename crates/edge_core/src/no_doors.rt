@@ -71,7 +71,7 @@ impl Doors for NoDoors {
     fn outlet(&mut self, _alloc: Global, name: &str) -> Result<MemSink, DoorError>
         // As any doors.
         ensures opened { IfOk result (λ outlet.
-            OpensOutlet (no_doors_state self.old) (mem_sink_state outlet) (no_doors_state self.new)) }
+            OpensOutlet (no_doors_state self.old) name.now (mem_sink_state outlet) (no_doors_state self.new)) }
         ensures refused { IfErr result (λ error.
             FailsWith error (no_doors_state self.old) (no_doors_state self.new)) }
 
@@ -110,7 +110,7 @@ impl Doors for NoDoors {
     fn connect(&mut self, _alloc: Global, address: &str) -> Result<MemSink, DoorError>
         // As any doors.
         ensures opened { IfOk result (λ outlet.
-            OpensOutlet (no_doors_state self.old) (mem_sink_state outlet) (no_doors_state self.new)) }
+            OpensOutlet (no_doors_state self.old) address.now (mem_sink_state outlet) (no_doors_state self.new)) }
         ensures refused { IfErr result (λ error.
             FailsWith error (no_doors_state self.old) (no_doors_state self.new)) }
 

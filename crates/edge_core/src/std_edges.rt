@@ -67,7 +67,7 @@ pub struct WriteEdge<W> {
 impl<W: Write> WriteEdge<W> {
     /// A sink that passes on to `inner`, with no fault counted.
     pub fn new(inner: W) -> Self
-        ensures { writer_state W.contents result ≡ record { written = W.contents inner; faults = 0 } }
+        ensures { writer_state W.contents result ≡ record { written = W.contents inner; faults = 0; name = None } }
     {
         WriteEdge { inner, faults: 0 }
     }

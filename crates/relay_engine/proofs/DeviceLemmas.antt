@@ -6,7 +6,7 @@ use Rattle.std.specs.Io.KnownBytes.{Appends, Keeps}
 use Rattle.edge_core.specs.Device.{SinkState, Takes, TakesFront}
 
 pub takes_nothing : (a b : SinkState) → b ≡ a → Takes a [] b
-takes_nothing a b e = rw e (record { taken = Appends-nil a.written; unfailed = refl })
+takes_nothing a b e = rw e (record { taken = Appends-nil a.written; unfailed = refl; same = refl })
 
 -- a front is no longer than the whole
 pub front_len : (a b : SinkState) (xs : List ℕ) (count : ℕ) → TakesFront a xs count b → count ≤ length xs

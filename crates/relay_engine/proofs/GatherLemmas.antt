@@ -53,6 +53,7 @@ front_before g h s t xs ys f =
       short = omega (arith, f.short, ap length all, length-append (g.bytes ++ xs) ys);
       taken = f.taken;
       risen = f.risen;
+      same = f.same;
       passed = f.passed;
     }
 
@@ -66,6 +67,7 @@ front_last g h i s t u xs ys first f =
       short = omega (arith, f.short, ap length all, length-append first.out (h.bytes ++ ys), length-append first.out f.out);
       taken = Appends-trans s.written t.written u.written first.out f.out first.taken.taken f.taken;
       risen = rw (← first.taken.unfailed) f.risen;
+      same = f.same ∙ first.taken.same;
       passed = counted_more g.passed h.passed i.passed (length first.out) (length f.out) first.passed f.passed ∙ ap (λ (n : ℕ). counted (g.passed + n)) (sym (length-append first.out f.out));
     }
 
@@ -82,6 +84,7 @@ front_filled g h i s t xs piece n first is f =
       short = omega (arith, f.short, ap length all, length-append (h.bytes ++ []) ys);
       taken = f.taken;
       risen = f.risen;
+      same = f.same;
       passed = f.passed ∙ ap (λ (x : Gathered). counted (x.passed + length f.out)) is;
     }
 

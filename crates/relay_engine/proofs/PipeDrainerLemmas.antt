@@ -250,7 +250,7 @@ completed d d' r k end (Worn entries) has ending completes = completed_owing d d
 -- ---- all steps
 
 pub adds : (failed : Bool) (a b c : SinkState) (text gain : List ℕ) → Takes a text b → GainsIf failed b gain c → GainsIf failed a (text ++ gain) c
-adds true a b c text gain taken more = (Appends-trans _ _ _ text gain taken.taken more.0, rw (← taken.unfailed) more.1)
+adds true a b c text gain taken more = (Appends-trans _ _ _ text gain taken.taken more.0, rw (← taken.unfailed) more.1, more.2 ∙ taken.same)
 adds false a b c text gain taken more = Takes-trans a b c text gain taken more
 
 stays : (failed failed' : Bool) (a b c : SinkState) (text gain : List ℕ) → GainsIf failed a text b → gain ≡ [] → c ≡ b → failed' ≡ failed → GainsIf failed' a (text ++ gain) c

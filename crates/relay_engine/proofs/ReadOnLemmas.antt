@@ -161,6 +161,7 @@ gains_by stop ended place (Some end) owed_end before written after gain taken at
           subst (λ (b : Bool). GainsIf b before gain after) (sym (ap (λ (e : DrainEnd). is_sink_fault e) failed.1)) (
             subst (λ (t : List ℕ). Appends before.written after.written t) (append-nil gain) (Appends-trans _ _ _ gain [] taken.taken (appends_kept written.written after.written failed.0.kept)),
             rw (← taken.unfailed) failed.0.risen,
+            failed.0.same ∙ taken.same,
           )
     ])
 
@@ -347,7 +348,7 @@ read_broken at others refuses tally lent aside d d1 p p1 before after canceled e
     let gain = breaks.text ++ breaks.part in
     record {
       gain = gain;
-      gained = subst (λ (o : Option Owed). GainsBy o true before gain after) (sym fresh) (breaks.written, breaks.risen);
+      gained = subst (λ (o : Option Owed). GainsBy o true before gain after) (sym fresh) (breaks.written, breaks.risen, breaks.same);
       cause = λ h text is passed.
           let r = reads h is in
           let found = r.found in

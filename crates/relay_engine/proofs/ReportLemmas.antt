@@ -125,13 +125,14 @@ pub record Gained (end : DrainEnd) (before : SinkState) (gain : List ℕ) (after
   pub gained : Appends before.written after.written gain
   pub fault : is_sink_fault end ≡ true → HasRisen before.faults after.faults
   pub unfailed : is_sink_fault end ≡ false → after.faults ≡ before.faults
+  pub same : after.name ≡ before.name
 
 pub by_end : (end : DrainEnd) (before : SinkState) (gain : List ℕ) (after : SinkState) → GainsUntil end before gain after → Gained end before gain after
-by_end ends.Clean before gain after gains = record { gained = gains.taken; fault = λ is. absurd cc; unfailed = λ is. gains.unfailed }
-by_end ends.Stopped before gain after gains = record { gained = gains.taken; fault = λ is. absurd cc; unfailed = λ is. gains.unfailed }
-by_end (ends.Rest place) before gain after gains = record { gained = gains.taken; fault = λ is. absurd cc; unfailed = λ is. gains.unfailed }
-by_end (ends.Bad place kind) before gain after gains = record { gained = gains.taken; fault = λ is. absurd cc; unfailed = λ is. gains.unfailed }
-by_end ends.SinkFault before gain after gains = record { gained = gains.0; fault = λ is. gains.1; unfailed = λ is. absurd cc }
+by_end ends.Clean before gain after gains = record { gained = gains.taken; fault = λ is. absurd cc; unfailed = λ is. gains.unfailed; same = gains.same }
+by_end ends.Stopped before gain after gains = record { gained = gains.taken; fault = λ is. absurd cc; unfailed = λ is. gains.unfailed; same = gains.same }
+by_end (ends.Rest place) before gain after gains = record { gained = gains.taken; fault = λ is. absurd cc; unfailed = λ is. gains.unfailed; same = gains.same }
+by_end (ends.Bad place kind) before gain after gains = record { gained = gains.taken; fault = λ is. absurd cc; unfailed = λ is. gains.unfailed; same = gains.same }
+by_end ends.SinkFault before gain after gains = record { gained = gains.0; fault = λ is. gains.1; unfailed = λ is. absurd cc; same = gains.2 }
 
 -- where a write failed the verdict doesn't count
 same_outcome : (failed : Bool) (fill : FillEnd) (v w : Verdict) → (failed ≡ false → v ≡ w) → outcome_of failed fill v ≡ outcome_of failed fill w
@@ -150,6 +151,7 @@ reported job report x fill found text end sb s kb k limit outcome taken is_taken
       whole = λ passed. concludes.whole passed ∙ ap (λ t. t.text) (stands.same passed);
       fault = gained.fault;
       unfailed = gained.unfailed;
+      same = gained.same;
     };
     gone = stands.gone;
   };

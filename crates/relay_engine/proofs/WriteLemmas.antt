@@ -66,6 +66,7 @@ interrupted job x at_end h i s t u n frames text piece behind_it small passes pu
       short = omega (arith, told, f.short, ap length all, length-append (text ++ piece) behind_it);
       written = rw (told, ← front_take f.out (translation job x at_end).text front) f.taken;
       risen = f.risen;
+      same = f.same;
     }
 
 pub interrupted_within : (job : Job) (x : List ℕ) (at_end : Bool) (h i : Gathered) (s t u : SinkState) (n frames len : ℕ) (text payload : List ℕ) → length x ≤ 2 ^ 62 → Passes job x at_end n frames text → Puts begun s text h t
@@ -119,6 +120,7 @@ broken job x at_end s u passed frames told stops counts is =
       short = counts.short;
       written = rw (← counts.whole) stops.written;
       risen = stops.risen;
+      same = stops.same;
       counted = is ∙ ap (λ (n : ℕ). capped n) size;
     }
 

@@ -128,7 +128,7 @@ has_failed (Ok progress) d' = false
 has_failed (Err fault) d' = owes_fault d'.owed
 
 abbrev pub GainsIf : Bool → SinkState → List ℕ → SinkState → Type 0
-GainsIf true before gain after = Appends before.written after.written gain × HasRisen before.faults after.faults
+GainsIf true before gain after = Appends before.written after.written gain × HasRisen before.faults after.faults × (after.name ≡ before.name)
 GainsIf false before gain after = Takes before gain after
 
 -- What a step put into the sink. One that makes what is owed makes no call of it, and whether one has failed stays.

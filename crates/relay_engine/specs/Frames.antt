@@ -71,6 +71,7 @@ pub record Breaks (job : Job) (bytes : List ℕ) (at_end : Bool) (before : SinkS
   pub short : length part < length (spelling job.output next)
   pub written : Appends before.written after.written (text ++ part)
   pub risen : HasRisen before.faults after.faults
+  pub same : after.name ≡ before.name
   pub counted : broken.written ≡ capped (length (text ++ part))
 
 -- A call of the sink failed. A front of what is to be written came to it, of so many bytes, and not all.
@@ -78,6 +79,7 @@ pub record Interrupts (job : Job) (bytes : List ℕ) (at_end : Bool) (before : S
   pub short : passed < length (translation job bytes at_end).text
   pub written : Appends before.written after.written (take passed (translation job bytes at_end).text)
   pub risen : HasRisen before.faults after.faults
+  pub same : after.name ≡ before.name
 
 -- So many frames are whole in the first `written` bytes of what is to be written. Behind them is a part of the next one.
 pub record CountsWhole (job : Job) (bytes : List ℕ) (at_end : Bool) (written frames : ℕ) : Type 0 where

@@ -31,4 +31,5 @@ pub record PutsFront (old : Gathered) (before : SinkState) (piece : List ℕ) (n
   pub short : length out < length (old.bytes ++ piece)
   pub taken : Appends before.written after.written out
   pub risen : HasRisen before.faults after.faults
+  pub same : after.name ≡ before.name
   pub passed : counted new.passed ≡ counted (old.passed + length out)

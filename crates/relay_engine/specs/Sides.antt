@@ -52,7 +52,7 @@ pub record Concludes (job : Job) (frames written : ℕ) (h : List Call) (text : 
 
 -- A text came to a sink, of which a write or a flush failed where the end says so.
 abbrev pub GainsUntil : DrainEnd → SinkState → List ℕ → SinkState → Type 0
-GainsUntil ends.SinkFault before gain after = Appends before.written after.written gain × HasRisen before.faults after.faults
+GainsUntil ends.SinkFault before gain after = Appends before.written after.written gain × HasRisen before.faults after.faults × (after.name ≡ before.name)
 GainsUntil end before gain after = Takes before gain after
 
 -- A reader's seat has completed with the code of its drainer's end, which is told of all that it had seen before.

@@ -66,9 +66,10 @@ pub record Relayed : Type 0 where
   pub ended : Devices
   pub answer : Answer
 
--- It relayed as on one thread alone, from fresh devices, or these were left as they were, for want of memory.
-pub record IsRelayedAlone (told : Option Told) (job : Job) (content : Told → Option (List ℕ)) (relayed : Relayed) : Type 0 where
-  pub fresh : AreFresh told content relayed.opened
+-- It relayed as on one thread alone, from fresh devices, whose sink is that of this name, or these were left as they were, for want of
+-- memory.
+pub record IsRelayedAlone (told : Option Told) (job : Job) (content : Told → Option (List ℕ)) (name : List ℕ) (relayed : Relayed) : Type 0 where
+  pub fresh : AreFresh told content name relayed.opened
   pub finishes : Finishes job relayed.answer relayed.opened.inlet relayed.ended.inlet relayed.opened.outlet relayed.ended.outlet
 
 abbrev pub answers : List Relayed → List Answer

@@ -20,11 +20,12 @@ pub record IsFreshInlet (told : Option Told) (content : Told → Option (List �
   pub unfailed : inlet.faults ≡ 0
   pub bytes : IfSome told (λ t. HasBytes inlet (content t))
 
--- Nor of the sink, and nothing was written to it.
-pub record AreFresh (told : Option Told) (content : Told → Option (List ℕ)) (devices : Devices) : Type 0 where
+-- Nor of the sink, nothing was written to it, and where the doors tell it is the sink of this name.
+pub record AreFresh (told : Option Told) (content : Told → Option (List ℕ)) (name : List ℕ) (devices : Devices) : Type 0 where
   pub inlet : IsFreshInlet told content devices.inlet
   pub outlet_unfailed : devices.outlet.faults ≡ 0
   pub empty : IfSome told (λ _. devices.outlet.written ≡ Some [])
+  pub named : IfSome told (λ _. devices.outlet.name ≡ Some name)
 
 abbrev pub faults_of : Device → ℕ
 faults_of (an_inlet source) = source.faults

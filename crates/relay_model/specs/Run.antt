@@ -63,6 +63,7 @@ pub record IsPassedOn (job : Job) (run : Run) (before after : SinkState) : Type 
   pub whole : run.write_failed ≡ false → run.written ≡ (translated job run).text
   pub fault : run.write_failed ≡ true → HasRisen before.faults after.faults
   pub unfailed : run.write_failed ≡ false → after.faults ≡ before.faults
+  pub same : after.name ≡ before.name
 
 -- The run is what passed from the source to the sink. The taking goes on until a frame is bad or a write fails.
 pub record IsRun (job : Job) (run : Run) (source_before source_after : SourceState) (sink_before sink_after : SinkState) : Type 0 where

@@ -1,7 +1,7 @@
 //! Devices of which one call waits until the other device's call has begun, so that they pass only where both run beside
 //! each other.
 
-ghost use Rattle.std.specs.Prelude.{◌≡◌, Some, IsErr, OnErr, OnOk};
+ghost use Rattle.std.specs.Prelude.{◌≡◌, None, Some, IsErr, OnErr, OnOk};
 ghost use Rattle.edge_core.specs.Device.{SinkState, SourceState, HasRisen};
 
 use edge_core::{Failed, Sink, Source, WholeSource};
@@ -105,7 +105,7 @@ impl<'a> HeldSink<'a> {
 }
 
 impl Sink for HeldSink<'_> {
-    ghost state = { λ sink. record { written = Some sink.written.items; faults = sink.faults } };
+    ghost state = { λ sink. record { written = Some sink.written.items; faults = sink.faults; name = None } };
 
     fn write(&mut self, piece: &[u8]) -> Result<usize, Failed> {
         self.writes = self.writes.saturating_add(1);

@@ -19,7 +19,7 @@ use Rattle.relay_model.specs.Status.{is_clean}
 use Rattle.relay_model.specs.World.{World}
 use Rattle.relay_model.proofs.AnswerLemmas.{LawOf, by_answer, no_usage}
 use Rattle.relay_model.proofs.StatusLemmas.{few}
-use Rattle.relay_top.specs.Batch.{Batches, CompletesBatch, HasBatchCause, HasLost, HasNoMemory, HasRelayed, IsLawful, IsRefused, IsRelayedOf, IsRelayedWhole, IsTranslated, RelaysEach, RelaysName, RelaysNames, TranslatesName, TranslatesNames}
+use Rattle.relay_top.specs.Batch.{Batches, CompletesBatch, HasBatchCause, HasLost, HasOwnSink, HasNoMemory, HasRelayed, IsLawful, IsRefused, IsRelayedOf, IsRelayedWhole, IsTranslated, RelaysEach, RelaysName, RelaysNames, TranslatesName, TranslatesNames}
 
 -- the laws of runs
 abbrev pub Caused : Type 0
@@ -161,8 +161,19 @@ batch_reads_nothing names first job status was is (HasRelayed relayed all back k
 
 -- ---- translations
 
+own_sink : (told : Option Told) (job : Job) (name : List ℕ) (relayed : Relayed) → IsRelayedOf told job name relayed → HasOwnSink told name relayed
+own_sink told job name relayed alone = at_end told alone.fresh.named
+  where
+    kept : (answer : Answer) → Finishes job answer relayed.opened.inlet relayed.ended.inlet relayed.opened.outlet relayed.ended.outlet → relayed.ended.outlet.name ≡ relayed.opened.outlet.name
+    kept (Err none) finishes = ap (λ (k : SinkState). k.name) finishes.1
+    kept (Ok report) finishes = finishes.is_run.passed_on.same
+
+    at_end : (t : Option Told) → IfSome t (λ _. relayed.opened.outlet.name ≡ Some name) → IfSome t (λ _. relayed.ended.outlet.name ≡ Some name)
+    at_end None named = tt
+    at_end (Some tells) named = kept relayed.answer alone.finishes ∙ named
+
 translates : Translated → (told : Option Told) (job : Job) (name : List ℕ) (relayed : Relayed) → IsRelayedOf told job name relayed → TranslatesName told job name relayed
-translates law told job name relayed alone = record { fresh = alone.fresh; translated = by relayed.answer alone.finishes }
+translates law told job name relayed alone = record { fresh = alone.fresh; translated = by relayed.answer alone.finishes; own = own_sink told job name relayed alone }
   where
     by : (answer : Answer) → Finishes job answer relayed.opened.inlet relayed.ended.inlet relayed.opened.outlet relayed.ended.outlet
         → IfOk answer (λ report. TranslatesAll job relayed.opened.inlet relayed.ended.inlet relayed.opened.outlet relayed.ended.outlet)
@@ -187,6 +198,7 @@ relays_name : WholeWhereClean → (told : Option Told) (job : Job) (name : List 
 relays_name law told job name relayed alone clean = record {
   fresh = alone.fresh;
   whole = by_answer (λ job status sb sa kb ka. status ≡ exit.Clean → RelaysAll job sb sa kb ka) law job relayed.answer relayed.opened.inlet relayed.ended.inlet relayed.opened.outlet relayed.ended.outlet alone.finishes (λ memory. cc) clean;
+  own = own_sink told job name relayed alone;
 }
 
 all_whole : WholeWhereClean → (told : Option Told) (job : Job) (names : List (List ℕ)) (relayed : List Relayed) → AllZip (IsRelayedOf told job) names relayed → first_failed names (answers relayed) ≡ None → AllZip (RelaysName told job) names relayed

@@ -22,13 +22,17 @@ bytes_of name told = content_of name told.named
 abbrev pub IsFreshInletOf : Option Told → List ℕ → SourceState → Type 0
 IsFreshInletOf told name inlet = IsFreshInlet told (bytes_of name) inlet
 
--- So are both of its devices.
+-- So are both of its devices, of which the sink is its own.
 abbrev pub AreFreshOf : Option Told → List ℕ → Devices → Type 0
-AreFreshOf told name devices = AreFresh told (bytes_of name) devices
+AreFreshOf told name devices = AreFresh told (bytes_of name) name devices
+
+-- The sink that a relay has written to is that of a name, where the doors tell it.
+abbrev pub HasOwnSink : Option Told → List ℕ → Relayed → Type 0
+HasOwnSink told name relayed = IfSome told (λ _. relayed.ended.outlet.name ≡ Some name)
 
 -- A name was relayed.
 abbrev pub IsRelayedOf : Option Told → Job → List ℕ → Relayed → Type 0
-IsRelayedOf told job name relayed = IsRelayedAlone told job (bytes_of name) relayed
+IsRelayedOf told job name relayed = IsRelayedAlone told job (bytes_of name) name relayed
 
 -- ---- names whose devices are given back unused
 
@@ -91,6 +95,7 @@ pub record HasBatchCause (status : Status) (before after : DoorsState) (sink_bef
 pub record TranslatesName (told : Option Told) (job : Job) (name : List ℕ) (relayed : Relayed) : Type 0 where
   pub fresh : AreFreshOf told name relayed.opened
   pub translated : IfOk relayed.answer (λ report. TranslatesAll job relayed.opened.inlet relayed.ended.inlet relayed.opened.outlet relayed.ended.outlet)
+  pub own : HasOwnSink told name relayed
 
 -- So it is with each name, and then its devices came back, unless an opening was refused or there was no memory.
 abbrev pub TranslatesNames : List (List ℕ) → Job → Status → DoorsState → DoorsState → Type 0
@@ -101,6 +106,7 @@ TranslatesNames names job status before after =
 pub record RelaysName (told : Option Told) (job : Job) (name : List ℕ) (relayed : Relayed) : Type 0 where
   pub fresh : AreFreshOf told name relayed.opened
   pub whole : RelaysAll job relayed.opened.inlet relayed.ended.inlet relayed.opened.outlet relayed.ended.outlet
+  pub own : HasOwnSink told name relayed
 
 -- So it is with each name.
 abbrev pub RelaysEach : List (List ℕ) → Job → DoorsState → DoorsState → Type 0

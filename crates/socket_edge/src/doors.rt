@@ -140,7 +140,7 @@ impl<R: Files<File = File> + Net<Listener = TcpListener, Stream = TcpStream> + D
     fn outlet(&mut self, alloc: Global, name: &str) -> Result<WriteEdge<Endpoint>, DoorError>
         // As any doors.
         ensures opened { IfOk result (λ outlet.
-            OpensOutlet (real_doors_state self.old) (writer_state tells_nothing outlet) (real_doors_state self.new)) }
+            OpensOutlet (real_doors_state self.old) name.now (writer_state tells_nothing outlet) (real_doors_state self.new)) }
         ensures refused { IfErr result (λ error.
             FailsWith error (real_doors_state self.old) (real_doors_state self.new)) }
 
@@ -191,7 +191,7 @@ impl<R: Files<File = File> + Net<Listener = TcpListener, Stream = TcpStream> + D
     fn connect(&mut self, _alloc: Global, address: &str) -> Result<WriteEdge<Endpoint>, DoorError>
         // As any doors.
         ensures opened { IfOk result (λ outlet.
-            OpensOutlet (real_doors_state self.old) (writer_state tells_nothing outlet) (real_doors_state self.new)) }
+            OpensOutlet (real_doors_state self.old) address.now (writer_state tells_nothing outlet) (real_doors_state self.new)) }
         ensures refused { IfErr result (λ error.
             FailsWith error (real_doors_state self.old) (real_doors_state self.new)) }
 
