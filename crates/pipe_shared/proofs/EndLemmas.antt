@@ -1,5 +1,5 @@
 -- An end after each of its calls is still that end.
-use Rattle.std.proofs.Common.{◌≡◌, ◌≤◌, ◌+◌, ℕ, Bool, true, false, List, [], ◌∷◌, ◌++◌, length, reverse, refl, sym, ap, subst, ◌∙◌, arith, None}
+use Rattle.std.proofs.Common.{◌≡◌, ◌≤◌, ◌+◌, ℕ, Bool, true, false, List, [], ◌∷◌, ◌++◌, length, reverse, refl, sym, ap, subst, ◌∙◌, arith, None, Some}
 use Rattle.std.specs.Prelude.{is_some, Result, Ok, Err, IfOk, IfErr}
 use Rattle.std.proofs.lemmas.List.{length-append}
 use Rattle.turn_cell.specs.Seat.{after_put}
@@ -18,6 +18,7 @@ use Rattle.pipe_shared.specs.declared.faults.TryFault.TheVariants as try
 use Rattle.pipe_shared.specs.declared.faults.FlushFault.{FlushFault}
 use Rattle.pipe_shared.specs.declared.faults.FlushFault.TheVariants as flush
 use Rattle.pipe_shared.specs.Log.{calls_of}
+use Rattle.pipe_shared.specs.Name.{Name}
 use Rattle.pipe_shared.specs.Turns.{Seat, FindsHeld, Wins, Refuses, RefusesFlush, Makes}
 use Rattle.pipe_shared.specs.Rooms.{Drafted, Lent}
 use Rattle.pipe_shared.specs.Ends.{IsEnd, IsWriter, IsReader}
@@ -37,6 +38,7 @@ writer_finds word old new d w finds = subst (λ (s : Seat). IsWriter s d) (sym f
   end = record { numbered = w.end.numbered; idle = w.end.idle; own = w.end.own };
   going = w.going;
   size = w.size;
+  at_most = w.at_most;
   fits = w.fits;
 })
 
@@ -48,6 +50,7 @@ writer_wins old new d w wins =
       end = end_wins 0 old new w.end wins;
       going = same_writer_end (calls_of old.seen) (calls_of new.seen) o ∙ w.going;
       size = λ options named. w.size options (sym (ap (λ (s : Seat). s.name) wins.after) ∙ named);
+      at_most = λ name named. w.at_most name (sym (ap (λ (s : Seat). s.name) wins.after) ∙ named);
       fits = omega (arith, less, w.fits);
     }
 
@@ -77,6 +80,7 @@ writer_commits options answer old new d e w m none free size =
       end = end_makes 0 options (Commit d.draft ∷ []) answer old new w.end m;
       going = ap writer_end calls ∙ found.going;
       size = λ o named. size ∙ found.size o (sym (ap (λ (s : Seat). s.name) m.after) ∙ named);
+      at_most = λ name named. let before = found.at_most name (sym (ap (λ (s : Seat). s.name) m.after) ∙ named) in omega (arith, before, free);
       fits = omega (arith, more, ap (λ (l : List Call). length (kept l)) calls, found.fits, ap (λ (rs : List Run). length (bytes_of rs)) none, free, size);
     }
 
@@ -131,10 +135,11 @@ reader_after_read options n old new l m r (Ok answer) made lent refused unchange
 reader_after_read options n old new l m r (Err fault) made lent refused unchanged size = subst (IsReader new) (sym unchanged) (reader_refused fault old new l r refused)
 
 -- a writer whose free part was granted anew
-pub writer_granted : (seat : Seat) (d e : Drafted) (n : ℕ) → IsWriter seat d → e.draft ≡ d.draft → length e.free ≡ n → e.size ≡ d.size → length (kept (calls_of seat.seen)) + (length (bytes_of d.draft) + n) ≤ d.size → IsWriter seat e
-writer_granted seat d e n w draft free size fits = record {
+pub writer_granted : (seat : Seat) (d e : Drafted) (n : ℕ) → IsWriter seat d → e.draft ≡ d.draft → length e.free ≡ n → e.size ≡ d.size → length (kept (calls_of seat.seen)) + (length (bytes_of d.draft) + n) ≤ d.size → ((name : Name) → seat.name ≡ Some name → n ≤ name.options.segment) → IsWriter seat e
+writer_granted seat d e n w draft free size fits at_most = record {
   end = w.end;
   going = w.going;
   size = λ options named. size ∙ w.size options named;
+  at_most = λ name named. let small = at_most name named in omega (arith, free, small);
   fits = omega (arith, ap (λ (rs : List Run). length (bytes_of rs)) draft, free, size, fits);
 }

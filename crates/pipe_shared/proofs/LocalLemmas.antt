@@ -45,13 +45,14 @@ logged seat before after calls answer history mine a k = record {
 }
 
 -- what is granted behind calls is free
-still_local : (options : Options) (p q : Pipe) (granted more : ℕ) (calls : List Call) (answer : Answer) → IsLocal options p granted → PipeAnswers p calls answer q → more ≤ length q.bytes.free → IsLocal options q more
-still_local options p q granted more calls answer l a within = record {
+still_local : (options : Options) (p q : Pipe) (granted more : ℕ) (calls : List Call) (answer : Answer) → IsLocal options p granted → PipeAnswers p calls answer q → more ≤ length q.bytes.free → more ≤ options.segment → IsLocal options q more
+still_local options p q granted more calls answer l a within at_most = record {
   history = (calls ++ l.history.0, a.stands l.history.0 l.history.1);
   pause = ap (λ (m : Made). m.thresholds.pause) a.kept ∙ l.pause;
   resume = ap (λ (m : Made). m.thresholds.resume) a.kept ∙ l.resume;
   room = ap (λ (m : Made). m.capacity) a.kept ∙ l.room;
   within = within;
+  at_most = at_most;
   segment = l.segment;
   small = l.small;
 }
@@ -59,7 +60,7 @@ still_local options p q granted more calls answer l a within = record {
 -- what was granted is still free where no more is held and drafted than before
 no_less : (options : Options) (p q : Pipe) (granted : ℕ) (calls : List Call) (answer : Answer) → IsLocal options p granted → PipeAnswers p calls answer q
     → length q.bytes.held + length q.bytes.draft ≤ length p.bytes.held + length p.bytes.draft → IsLocal options q granted
-no_less options p q granted calls answer l a less = still_local options p q granted granted calls answer l a (omega (arith, l.within, ap (λ (m : Made). m.capacity) a.kept, less))
+no_less options p q granted calls answer l a less = still_local options p q granted granted calls answer l a (omega (arith, l.within, ap (λ (m : Made). m.capacity) a.kept, less)) l.at_most
 
 local_flush : (options : Options) (p q : Pipe) (granted : ℕ) (answer : Answer) → IsLocal options p granted → ((runs : List Run) → bytes_of runs ≡ p.bytes.draft → PipeAnswers p (Commit runs ∷ []) answer q) → q.bytes.draft ≡ []
     → IsLocal options q granted
@@ -105,7 +106,7 @@ local_end_reader options p q granted code answer l a same =
     no_less options p q granted (EndReader code ∷ []) answer l a (omega (arith, held, none, ap length same))
 
 pub local_end_writer : (options : Options) (p q : Pipe) (granted : ℕ) (calls : List Call) (answer : Answer) → IsLocal options p granted → PipeAnswers p calls answer q → IsLocal options q 0
-local_end_writer options p q granted calls answer l a = still_local options p q granted 0 calls answer l a (omega arith)
+local_end_writer options p q granted calls answer l a = still_local options p q granted 0 calls answer l a (omega arith) (omega arith)
 
 pub granted_len : (options : Options) (p : Pipe) (granted : ℕ) → IsLocal options p granted → length (take granted p.bytes.free) ≡ granted
 granted_len options p granted l = omega (arith, length-take granted p.bytes.free, l.within)

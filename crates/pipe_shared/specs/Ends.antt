@@ -27,11 +27,13 @@ pub record IsEnd (number : ℕ) (seat : Seat) : Type 0 where
   pub idle : seat.holds ≡ false
   pub own : entries_of number seat.seen ≡ seat.own
 
--- The writer has not completed, and what it has drafted or was granted fits behind what it has seen to be committed and not consumed.
+-- The writer has not completed, what it has drafted or was granted fits behind what it has seen to be committed and not consumed, and it was
+-- granted at most a segment.
 pub record IsWriter (seat : Seat) (d : Drafted) : Type 0 where
   pub end : IsEnd 0 seat
   pub going : writer_end (calls_of seat.seen) ≡ None
   pub size : (name : Name) → seat.name ≡ Some name → d.size ≡ room_of name.options
+  pub at_most : (name : Name) → seat.name ≡ Some name → length d.free ≤ name.options.segment
   pub fits : length (kept (calls_of seat.seen)) + (length (bytes_of d.draft) + length d.free) ≤ d.size
 
 -- The reader has not completed, and its copy is of the lend that stands.

@@ -21,10 +21,11 @@ pub record GrantsAnew (options : Options) (hint n : ℕ) (old new : Writer) : Ty
   pub wins : Wins old.seat new.seat
   pub has : HasRoomFor options (held_in new.seat) (length (bytes_of old.draft)) hint n
 
--- The free part is long enough, and the draft is as it was. Where it was long enough before, nothing has changed.
+-- The free part is long enough, and at most a segment, and the draft is as it was. Where it was long enough before, nothing has changed.
 pub record Grants (options : Options) (hint n : ℕ) (old new : Writer) : Type 0 where
   pub small : hint ≤ options.segment
   pub enough : hint ≤ n
+  pub at_most : n ≤ options.segment
   pub free : length new.free ≡ n
   pub draft : new.draft ≡ old.draft
   pub how : (hint ≤ length old.free) × (new ≡ old) ⊎ GrantsAnew options hint n old new

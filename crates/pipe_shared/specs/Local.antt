@@ -27,13 +27,14 @@ with_free p free = record { control = p.control; bytes = record { held = p.bytes
 abbrev pub local_of : Options → Pipe → ℕ → Local
 local_of options p granted = record { options = options; pipe = with_free p (take granted p.bytes.free) }
 
--- It stands for some history, it has room for what its options say, and what was granted is free.
+-- It stands for some history, it has room for what its options say, and what was granted is free, and at most a segment.
 pub record IsLocal (options : Options) (p : Pipe) (granted : ℕ) : Type 0 where
   pub history : (h : List Call) × HoldsFor p h
   pub pause : p.control.pause ≡ options.pause
   pub resume : p.control.resume ≡ options.resume
   pub room : capacity_of p.bytes ≡ room_of options
   pub within : granted ≤ length p.bytes.free
+  pub at_most : granted ≤ options.segment
   pub segment : 1 ≤ options.segment
   pub small : room_of options ≤ 2 ^ 31
 
@@ -51,10 +52,11 @@ pub record GrantsMore (hint n : ℕ) (old : Local) : Type 0 where
   pub short : length old.pipe.bytes.free < hint
   pub has : HasRoomFor old.options (length old.pipe.bytes.held) (length old.pipe.bytes.draft) hint n
 
--- The free part is now so long, and nothing else has changed. Where it was long enough, nothing has.
+-- The free part is now so long, at most a segment, and nothing else has changed. Where it was long enough, nothing has.
 pub record LocalGrants (hint n : ℕ) (old new : Local) : Type 0 where
   pub small : hint ≤ old.options.segment
   pub enough : hint ≤ n
+  pub at_most : n ≤ old.options.segment
   pub free : length new.pipe.bytes.free ≡ n
   pub rest : new ≡ record { options = old.options; pipe = with_free old.pipe new.pipe.bytes.free }
   pub how : (hint ≤ length old.pipe.bytes.free) × (new ≡ old) ⊎ GrantsMore hint n old

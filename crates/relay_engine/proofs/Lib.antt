@@ -9,6 +9,7 @@ mod FillingLemmas
 mod FrameLemmas
 mod FrontLemmas
 mod GatherLemmas
+mod InTimeLemmas
 mod LaterLemmas
 mod LendLemmas
 mod MeetLemmas

@@ -38,10 +38,11 @@ use Rattle.relay_engine.specs.declared.filling.Filled.{Filled}
 use Rattle.relay_engine.specs.declared.filling.Filled.TheVariants.{Moved, Paused, Full, Ended}
 use Rattle.relay_engine.proofs.FillingLemmas.{EndsFor, OrCommits, Took, took}
 use Rattle.relay_engine.proofs.FillSideLemmas.{taken_on}
+use Rattle.relay_engine.proofs.InTimeLemmas.{IsInTime, none_bad, one_read, stops}
 use Rattle.relay_engine.proofs.LendLemmas.{behind_commit}
 use Rattle.relay_engine.proofs.PumpLemmas.{AtRest, Goes, Pumps, fuel, gone_says, later_same, none_left, DrainsLocal, behind_reader, gained}
 use Rattle.relay_model.specs.Ending.{outcome_of}
-use Rattle.relay_model.specs.Run.{IsReported, IsTaken}
+use Rattle.relay_model.specs.Run.{IsReported, IsTaken, StopsInTime}
 use Rattle.relay_engine.specs.Ending.{is_sink_fault, verdict_for}
 use Rattle.relay_engine.specs.Sides.{Concludes}
 use Rattle.relay_engine.specs.declared.drain_end.DrainEnd.{DrainEnd}
@@ -138,6 +139,7 @@ pub record Keeps (f : FillingState) (p : Local) (f' : FillingState) (p' : Local)
   pub draft : p'.pipe.bytes.draft ≡ []
   pub limit : f'.limit ≡ f.limit
   pub within : f'.taken ≤ f'.limit
+  pub one_read : f'.taken ≤ f.taken + p.options.segment
 
 -- bytes were taken
 took_bytes : (job : Job) (sb s s' : SourceState) (kb k : SinkState) (f f' : FillingState) (d : DrainingState) (p middle : Local) (ending : Option FillEnd) (filled : Filled room.Full) → (rest : AtRest job sb s kb k f d p ending) → (once : Once f p s filled f' middle s' rest.on.h (total rest.on.h)) → Keeps f p f' middle
@@ -170,6 +172,8 @@ took_bytes job sb s s' kb k f f' d p middle ending filled rest once keeps given 
         draft = keeps.draft;
         room = subst (λ (o : Options). longest_frame job.input job.max ≤ room_of o) (sym keeps.options) on.room;
         thresholds = subst (λ (o : Options). AreThresholds o.pause o.resume) (sym keeps.options) on.thresholds;
+        segment = ap (λ (o : Options). o.segment) keeps.options ∙ on.segment;
+        in_time = subst (λ (x : List ℕ). IsInTime job x) (sym c.all) (one_read job (total h) once.taken (none_bad job d.drained h on.text on.job_is on.goes.drained rest.all_seen) (omega (arith, size, keeps.one_read, on.segment)));
       };
       less = less (nat_lt 0 (middle.pipe.control.committed - middle.pipe.control.examined)) size;
     }
@@ -208,6 +212,8 @@ took_end job sb s s' kb k f f' d p middle p' ending filled end wake rest once se
         draft = keeps.draft;
         room = subst (λ (o : Options). longest_frame job.input job.max ≤ room_of o) (sym keeps.options) on.room;
         thresholds = subst (λ (o : Options). AreThresholds o.pause o.resume) (sym keeps.options) on.thresholds;
+        segment = ap (λ (o : Options). o.segment) keeps.options ∙ on.segment;
+        in_time = subst (λ (x : List ℕ). IsInTime job x) (sym all) on.in_time;
       };
       less = less (nat_lt 0 (p'.pipe.control.committed - p'.pipe.control.examined)) (none_left _ _ (omega (arith, holds.marks.committed, holds.marks.examined, c.asked.examined_is, rest.all_seen, ap length all))) same;
     }
@@ -336,3 +342,6 @@ finished job sb s kb k k' f d d' p p' ending end limit on once =
     let gains = adds (is_sink_fault end) kb k k' on.text once.gain on.wrote (gained d (is_sink_fault end) k k' once.gain on.fresh once.gained) in
     reported job _ (total on.h) (taken_as ending end) a.now all end sb s kb k' limit refl on.counted (run_taken job (total on.h) ending (end_code end) sb s on.taken) (by_end end kb all k' (as_gains end kb k' all gains)) concludes
     (stands job d'.drained.frames d'.drained.written (total on.h) ending a.now all end on.not_gone (same.ended_is ∙ on.ended) same.total_is concludes)
+
+pub stopped : (job : Job) (sb s : SourceState) (kb k : SinkState) (f : FillingState) (d : DrainingState) (p : Local) (ending : Option FillEnd) (end : DrainEnd) → Pumps job sb s kb k f d p ending → StopsInTime job sb s
+stopped job sb s kb k f d p ending end on = stops job (total on.h) (taken_as ending end) sb s on.in_time (run_taken job (total on.h) ending (end_code end) sb s on.taken)

@@ -43,6 +43,7 @@ use Rattle.relay_engine.specs.declared.draining.Progress.TheVariants.{Moved, Idl
 use Rattle.relay_engine.proofs.DeviceLemmas.{takes_nothing}
 use Rattle.relay_engine.proofs.LendLemmas.{pending_says, ready_says}
 use Rattle.relay_engine.proofs.FrameLemmas.{passes_nothing}
+use Rattle.relay_engine.proofs.InTimeLemmas.{IsInTime, nothing_in_time}
 use Rattle.relay_engine.proofs.LaterLemmas.{none_is, none_mapped}
 use Rattle.relay_engine.proofs.ReadOnLemmas.{passed_of}
 
@@ -71,6 +72,8 @@ pub record Pumps (job : Job) (source_before source_now : SourceState) (sink_befo
   pub draft : p.pipe.bytes.draft ≡ []
   pub room : longest_frame job.input job.max ≤ room_of p.options
   pub thresholds : AreThresholds p.options.pause p.options.resume
+  pub segment : p.options.segment ≡ job.seg
+  pub in_time : IsInTime job (total h)
 
 -- how many steps there can be yet
 abbrev pub fuel : FillingState → Local → Option FillEnd → ℕ
@@ -104,8 +107,8 @@ new_drained job = record {
 }
 
 pub starts : (job : Job) (s : SourceState) (k : SinkState) (f : FillingState) (d : DrainingState) (p : Local) → f ≡ record { limit = job.limit; taken = 0; owed = false; drafted = 0 } → d ≡ record { drained = record { job = job; place = 0; frames = 0; written = 0; known = 0 }; owed = None }
-    → HoldsFor p.pipe [] → p.pipe.bytes.draft ≡ [] → longest_frame job.input job.max ≤ room_of p.options → AreThresholds p.options.pause p.options.resume → Pumps job s s k k f d p None
-starts job s k f d p filling draining holds draft room thresholds = record {
+    → HoldsFor p.pipe [] → p.pipe.bytes.draft ≡ [] → longest_frame job.input job.max ≤ room_of p.options → AreThresholds p.options.pause p.options.resume → p.options.segment ≡ job.seg → Pumps job s s k k f d p None
+starts job s k f d p filling draining holds draft room thresholds segment = record {
   h = [];
   text = [];
   holds = holds;
@@ -122,6 +125,8 @@ starts job s k f d p filling draining holds draft room thresholds = record {
   draft = draft;
   room = room;
   thresholds = thresholds;
+  segment = segment;
+  in_time = nothing_in_time job (ap (λ t. t.verdict) (new_drained job).rest);
 }
 
 -- ---- what replies say
@@ -255,6 +260,8 @@ moved_on job sb s kb k k' f d d' p p' ending frames gone on once =
       draft = ap (λ a. a.draft) kept ∙ on.draft;
       room = subst (λ (o : Options). longest_frame job.input job.max ≤ room_of o) (sym (ap (λ a. a.options) kept)) on.room;
       thresholds = subst (λ (o : Options). AreThresholds o.pause o.resume) (sym (ap (λ a. a.options) kept)) on.thresholds;
+      segment = ap (λ a. a.options.segment) kept ∙ on.segment;
+      in_time = subst (λ (x : List ℕ). IsInTime job x) (sym so.same.total_is) on.in_time;
     }
 
 fuel_less : (a e : ℕ) (now before : Bool) → now ≡ false → before ≡ true → a + e + cond now 1 0 < a + e + cond before 1 0
@@ -318,6 +325,8 @@ idle job sb s kb k f d d' p p' ending n k' gone on once =
         draft = ap (λ a. a.draft) kept ∙ on.draft;
         room = subst (λ (o : Options). longest_frame job.input job.max ≤ room_of o) (sym (ap (λ a. a.options) kept)) on.room;
         thresholds = subst (λ (o : Options). AreThresholds o.pause o.resume) (sym (ap (λ a. a.options) kept)) on.thresholds;
+        segment = ap (λ a. a.options.segment) kept ∙ on.segment;
+        in_time = on.in_time;
       };
       none_yet = none_mapped fill_code ending (sym on.ended ∙ goes_yet h waiting);
       all_seen = pending_says h n (length (held h)) on.holds.marks.legal told;

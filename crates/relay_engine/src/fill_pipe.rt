@@ -53,12 +53,13 @@ pub trait FillPipe {
     /// Its call found that the pipe has no room for one byte more, and tells this of it.
     ghost is_full: { Self.Pipe → Self.Full → Self → Self → Type 0 };
 
-    /// Grants a free part of at least one byte behind the draft.
+    /// Grants a free part of at least one byte behind the draft, and of at most a segment.
     fn room(&mut self, pipe: &Self::Pipe) -> Result<(), NoRoom<Self::Full>>
         requires may { may_call pipe.now self.old }
         ensures may { may_call pipe.now self.new }
         ensures at { (h : List Call) → at self.old h → HearsLater at others h self.new }
         ensures some { IfOk result (λ _. 0 < (writer self.new).room) }
+        ensures at_most { IfOk result (λ _. (writer self.new).room ≤ (options pipe.now self.old).segment) }
         ensures refused { IfErr result (λ fault. RefusesRoomTo (is_full pipe.now) refuses fault self.old self.new) }
         ensures draft { (writer self.new).draft ≡ (writer self.old).draft }
         ensures granted { IfOk result (λ _. IsGranted (writer self.old) (writer self.new)) }
@@ -71,6 +72,7 @@ pub trait FillPipe {
         requires some { 0 < (writer self.old).room }
         ensures may { (pipe : Self.Pipe) → may_call pipe self.old → may_call pipe self.new }
         ensures at { (h : List Call) → at self.old h → at self.new h }
+        ensures fits { IfOk result (λ n. n ≤ (writer self.old).room) }
         ensures drafts { Drafts left (S.state source.old) (writer self.old).draft result (writer self.new).draft (S.state source.new) }
         ensures tally { (writer self.new).tally ≡ (writer self.old).tally }
         ensures reading { (writer self.new).reading ≡ (writer self.old).reading }

@@ -1,6 +1,6 @@
 //! The part of a filler that knows no pipe: it takes bytes from a source into whichever pipe it is given the end of.
 
-ghost use Rattle.std.specs.Prelude.{◌≡◌, ◌≤◌, ◌^◌, false, true, ℕ, List, [], IfOk};
+ghost use Rattle.std.specs.Prelude.{◌≡◌, ◌≤◌, ◌+◌, ◌^◌, false, true, ℕ, List, [], IfOk};
 ghost use Rattle.pipe_core.specs.History.{Call};
 ghost use Rattle.relay_engine.specs.Filling.{FillsOn, HasTaken, Settles, TakesBy, owes};
 
@@ -85,7 +85,7 @@ impl Filling {
     }
 
     /// One step: it makes the commit that is owed, and where that left nothing to tell it reads once and commits. After a
-    /// step that was refused the next one goes on there.
+    /// step that was refused the next one goes on there. It takes at most a segment.
     pub fn step<P: FillPipe, S: Source>(
         &mut self,
         pipe: &P::Pipe,
@@ -101,6 +101,7 @@ impl Filling {
         ensures draft { IfOk result (λ _. (P.writer end.new).draft ≡ []) }
         ensures limit { self.new.limit ≡ self.old.limit }
         ensures within { self.new.taken ≤ self.new.limit }
+        ensures one_read { self.new.taken ≤ self.old.taken + (P.options pipe.now end.old).segment }
         ensures reading { (P.writer end.new).reading ≡ (P.writer end.old).reading }
         ensures options { P.options pipe.now end.new ≡ P.options pipe.now end.old }
     {
@@ -135,6 +136,7 @@ impl Filling {
         ensures draft { IfOk result (λ _. (P.writer end.new).draft ≡ []) }
         ensures limit { self.new.limit ≡ self.old.limit }
         ensures within { self.new.taken ≤ self.new.limit }
+        ensures one_read { self.new.taken ≤ self.old.taken + (P.options pipe.now end.old).segment }
         ensures reading { (P.writer end.new).reading ≡ (P.writer end.old).reading }
         ensures options { P.options pipe.now end.new ≡ P.options pipe.now end.old }
     {

@@ -1,9 +1,9 @@
 //! A relay on one thread.
 
-ghost use Rattle.std.specs.Prelude.{◌≡◌, ◌*◌, ◌^◌, ◌≤◌, ℕ, List, [], ◌∷◌, Some, None, IsNone, IfOk, OnErr};
+ghost use Rattle.std.specs.Prelude.{◌≡◌, ◌+◌, ◌*◌, ◌^◌, ◌≤◌, ℕ, List, [], ◌∷◌, Some, None, IsNone, IfOk, OnErr};
 ghost use Rattle.frame_grammar.specs.Job.{IsInRange};
 ghost use Rattle.frame_model.specs.Spelling.{longest_frame};
-ghost use Rattle.relay_model.specs.Run.{IsReported};
+ghost use Rattle.relay_model.specs.Run.{IsReported, StopsInTime};
 ghost use Rattle.pipe_core.specs.History.{Call, EndWriter};
 ghost use Rattle.pipe_core.specs.Answers.{Woke};
 ghost use Rattle.pipe_core.specs.Pipe.{HoldsFor};
@@ -30,7 +30,8 @@ use std::alloc::{AllocError, Global};
 /// Relays a source to a sink, and reports how that ended. It takes its memory before the first read, and want of it is the
 /// one refusal, by which nothing is read or written.
 ///
-/// It returns where all calls of the source and the sink do.
+/// It takes at most a segment of the source behind the place where a bad frame is complete, and returns where all calls of the source
+/// and the sink do.
 pub fn pump_local<S: Source, K: Sink>(
     alloc: Global,
     source: &mut S,
@@ -41,6 +42,7 @@ pub fn pump_local<S: Source, K: Sink>(
     ensures reported { IfOk result (λ report. IsReported job.now report (S.state source.old) (S.state source.new) (K.state sink.old) (K.state sink.new)) }
     ensures source_untouched { OnErr result (S.state source.new ≡ S.state source.old) }
     ensures sink_untouched { OnErr result (K.state sink.new ≡ K.state sink.old) }
+    ensures in_time { StopsInTime job.now (S.state source.old) (S.state source.new) }
 {
     match LocalPipe::make(alloc, options_of(job)) {
         Ok(pipe) => {
@@ -76,7 +78,9 @@ fn pump<S: Source, K: Sink>(job: &Job, pipe: &mut LocalPipe, source: &mut S, sin
     requires draft { pipe.old.pipe.bytes.draft ≡ [] }
     requires room { longest_frame job.now.input job.now.max ≤ room_of pipe.old.options }
     requires thresholds { AreThresholds pipe.old.options.pause pipe.old.options.resume }
-    ensures { IsReported job.now result (S.state source.old) (S.state source.new) (K.state sink.old) (K.state sink.new) }
+    requires segment { pipe.old.options.segment ≡ job.now.seg }
+    ensures reported { IsReported job.now result (S.state source.old) (S.state source.new) (K.state sink.old) (K.state sink.new) }
+    ensures in_time { StopsInTime job.now (S.state source.old) (S.state source.new) }
 {
     never_both();
     let mut filling = Filling::new(job.limit);
@@ -115,6 +119,7 @@ fn fill_once<S: Source>(
     ensures draft { pipe.new.pipe.bytes.draft ≡ [] }
     ensures limit { filling.new.limit ≡ filling.old.limit }
     ensures within { filling.new.taken ≤ filling.new.limit }
+    ensures one_read { filling.new.taken ≤ filling.old.taken + pipe.old.options.segment }
     ensures gone { pipe.new.pipe.control.gone ≡ pipe.old.pipe.control.gone }
     ensures lent { pipe.new.pipe.control.lent ≡ pipe.old.pipe.control.lent }
 {

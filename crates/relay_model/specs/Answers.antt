@@ -12,7 +12,7 @@ use Rattle.relay_model.specs.declared.status.Status.TheVariants as exit
 use Rattle.relay_model.specs.Devices.{AreFresh, Devices, both}
 use Rattle.relay_model.specs.Ending.{status_of}
 use Rattle.relay_model.specs.Lines.{IsWritten, line_of, memory_line}
-use Rattle.relay_model.specs.Run.{IsReported, IsRun, Run, outcome}
+use Rattle.relay_model.specs.Run.{IsReported, IsRun, Run, StopsInTime, outcome}
 use Rattle.relay_model.specs.Status.{is_clean, number}
 use Rattle.relay_model.specs.World.{World}
 
@@ -25,6 +25,11 @@ Finishes job (Ok report) source_before source_after sink_before sink_after =
     IsReported job report source_before source_after sink_before sink_after
 Finishes job (Err _) source_before source_after sink_before sink_after =
     (source_after ≡ source_before) × (sink_after ≡ sink_before)
+
+-- So a relay on one thread leaves them, which takes at most a segment behind a bad frame.
+pub record FinishesAlone (job : Job) (answer : Answer) (source_before source_after : SourceState) (sink_before sink_after : SinkState) : Type 0 where
+  pub finishes : Finishes job answer source_before source_after sink_before sink_after
+  pub in_time : StopsInTime job source_before source_after
 
 -- The status of a relay.
 abbrev pub status_of_answer : Answer → Status
@@ -71,6 +76,7 @@ pub record Relayed : Type 0 where
 pub record IsRelayedAlone (told : Option Told) (job : Job) (content : Told → Option (List ℕ)) (name : List ℕ) (relayed : Relayed) : Type 0 where
   pub fresh : AreFresh told content name relayed.opened
   pub finishes : Finishes job relayed.answer relayed.opened.inlet relayed.ended.inlet relayed.opened.outlet relayed.ended.outlet
+  pub in_time : StopsInTime job relayed.opened.inlet relayed.ended.inlet
 
 abbrev pub answers : List Relayed → List Answer
 answers relayed = map (λ r. r.answer) relayed

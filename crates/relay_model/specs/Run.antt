@@ -1,5 +1,5 @@
 -- What a relay does to its source and its sink.
-use Rattle.std.specs.Prelude.{ℕ, ◌≡◌, ◌≢◌, ◌<◌, ◌≤◌, ◌⊎◌, Bool, true, false, List, [], ◌++◌, length, IfSome}
+use Rattle.std.specs.Prelude.{ℕ, ◌≡◌, ◌≢◌, ◌<◌, ◌≤◌, ◌+◌, ◌⊎◌, Bool, true, false, List, [], ◌++◌, length, take, IfSome}
 use Rattle.std.specs.Io.KnownBytes.{Appends, Consumes, IsAtEnd}
 use mathlib.Core.List.{IsPrefix}
 use Rattle.edge_core.specs.Device.{SourceState, SinkState, HasRisen, HasNotRisen}
@@ -8,7 +8,8 @@ use Rattle.relay_model.specs.declared.ending.FillEnd.{FillEnd}
 use Rattle.relay_model.specs.declared.ending.FillEnd.TheVariants as taking
 use Rattle.relay_model.specs.declared.ending.Outcome.{Outcome}
 use Rattle.relay_model.specs.declared.ending.Report.{Report}
-use Rattle.frame_model.specs.Cut.{End, cut}
+use Rattle.frame_model.specs.declared.framing.BadKind.{BadKind}
+use Rattle.frame_model.specs.Cut.{Bad, End, cut}
 use Rattle.frame_model.specs.Translation.{Translation, spellable}
 use Rattle.frame_grammar.specs.Job.{translation}
 use Rattle.relay_model.specs.declared.status.Status.{Status}
@@ -81,6 +82,15 @@ pub record IsReported (job : Job) (report : Report) (source_before source_after 
   pub written : report.written ≡ length run.written
 
 -- ---- what follows
+
+-- None of the frames at the front of these bytes is bad, whatever comes behind them.
+abbrev pub HasNoBad : Job → List ℕ → Type 0
+HasNoBad job x = (place : ℕ) (kind : BadKind) → (translation job x false).verdict ≢ Bad place kind
+
+-- At most a segment of what the source held was taken behind the place where a bad frame is complete.
+abbrev pub StopsInTime : Job → SourceState → SourceState → Type 0
+StopsInTime job before after =
+    IfSome before.left (λ input. IfSome after.left (λ left. (k : ℕ) → k + job.seg + length left < length input → HasNoBad job (take k input)))
 
 -- Where neither device failed, the sink gains the translation of all that the source held.
 abbrev pub TranslatesAll : Job → SourceState → SourceState → SinkState → SinkState → Type 0

@@ -4,7 +4,7 @@ use Rattle.std.proofs.Math.Seq.{take-append_seam}
 use Rattle.std.specs.List.{AllZip}
 use Rattle.edge_core.specs.Device.{SourceState, SinkState}
 use Rattle.frame_grammar.specs.declared.job.Job.{Job}
-use Rattle.relay_model.specs.Answers.{Finishes}
+use Rattle.relay_model.specs.Answers.{FinishesAlone}
 use Rattle.relay_threads.specs.declared.batching.Task.{Task}
 use Rattle.relay_threads.specs.declared.batching.Finished.{Finished}
 
@@ -15,11 +15,11 @@ module _ {I O : Type 0} (source : I → SourceState) (sink : O → SinkState) (j
 
   -- a relay that was run
   abbrev pub Runs : Finished I O → Finished I O → Type 0
-  Runs before after = Finishes job after.report (source before.inlet) (source after.inlet) (sink before.outlet) (sink after.outlet)
+  Runs before after = FinishesAlone job after.report (source before.inlet) (source after.inlet) (sink before.outlet) (sink after.outlet)
 
   -- a task that was relayed
   abbrev pub Answers : Task I O → Finished I O → Type 0
-  Answers task done = Finishes job done.report (source task.inlet) (source done.inlet) (sink task.outlet) (sink done.outlet)
+  Answers task done = FinishesAlone job done.report (source task.inlet) (source done.inlet) (sink task.outlet) (sink done.outlet)
 
   -- Where each relay has the devices of its task, and the one at each place was run, each task was relayed.
   pub answered : (tasks : List (Task I O)) (before after : List (Finished I O)) → AllZip Has tasks before → length after ≡ length before → ((i : ℕ) (d : Finished I O) → i < length before → Runs (get_or before i d) (get_or after i d)) → AllZip Answers tasks after

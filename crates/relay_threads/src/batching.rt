@@ -4,7 +4,7 @@ ghost use Rattle.std.specs.Prelude.{◌≡◌, ◌<◌, ◌≤◌, IfOk};
 ghost use Rattle.std.specs.List.{AllZip};
 ghost use Rattle.edge_core.specs.Device.{SourceState, SinkState};
 ghost use Rattle.frame_grammar.specs.Job.{IsInRange};
-ghost use Rattle.relay_model.specs.Answers.{Finishes};
+ghost use Rattle.relay_model.specs.Answers.{FinishesAlone};
 
 use edge_core::{Sink, Source};
 use frame_grammar::Job;
@@ -50,7 +50,7 @@ pub fn batch<R: Threads + Sync, I: Source + Send + Drop, O: Sink + Send + Drop>(
     requires workers { (1 ≤ workers) × (workers ≤ 16) }
     requires range { IsInRange job.now }
     ensures finished { IfOk result (λ finished. AllZip (λ task done.
-        Finishes job.now done.report (I.state task.inlet) (I.state done.inlet) (O.state task.outlet) (O.state done.outlet))
+        FinishesAlone job.now done.report (I.state task.inlet) (I.state done.inlet) (O.state task.outlet) (O.state done.outlet))
         tasks.items finished.items) }
 {
     let mut finished = not_begun(alloc, tasks)?;
@@ -85,7 +85,7 @@ fn not_begun<I: Drop, O: Drop>(
 /// Relays on this thread alone.
 fn run<I: Source, O: Sink>(alloc: Global, relay: &mut Finished<I, O>, job: &Job)
     requires { IsInRange job.now }
-    ensures { Finishes job.now relay.new.report (I.state relay.old.inlet) (I.state relay.new.inlet) (O.state relay.old.outlet) (O.state relay.new.outlet) }
+    ensures { FinishesAlone job.now relay.new.report (I.state relay.old.inlet) (I.state relay.new.inlet) (O.state relay.old.outlet) (O.state relay.new.outlet) }
 {
     relay.report = pump_local(alloc, &mut relay.inlet, &mut relay.outlet, job);
 }

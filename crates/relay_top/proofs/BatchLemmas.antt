@@ -9,7 +9,7 @@ use Rattle.edge_core.specs.declared.doors.DoorError.TheVariants.{Failed, OutOfMe
 use Rattle.frame_grammar.specs.declared.job.Job.{Job}
 use Rattle.relay_model.specs.declared.status.Status.{Status}
 use Rattle.relay_model.specs.declared.status.Status.TheVariants as exit
-use Rattle.relay_model.specs.Answers.{Answer, Finishes, Relayed, Sums, answers, returned}
+use Rattle.relay_model.specs.Answers.{Answer, FinishesAlone, Relayed, Sums, answers, returned}
 use Rattle.relay_model.specs.Devices.{Devices, HasComeBack, both, faults_among, with_all, with_out}
 use Rattle.relay_model.specs.Lines.{IsWritten, door_line, memory_line}
 use Rattle.relay_model.specs.World.{world}
@@ -28,7 +28,7 @@ pub record AreRelayed {F : Type 0} (told : Option Told) (job : Job) (ended : F �
 
 pub relayed_from : {T F : Type 0} (told : Option Told) (job : Job) (opened : T → Devices) (ended : F → Devices) (answer : F → Answer) (names : List (List ℕ)) (tasks : List T) (finished : List F)
     → AllZip (λ name task. AreFreshOf told name (opened task)) names tasks
-    → AllZip (λ task done. Finishes job (answer done) (opened task).inlet (ended done).inlet (opened task).outlet (ended done).outlet) tasks finished
+    → AllZip (λ task done. FinishesAlone job (answer done) (opened task).inlet (ended done).inlet (opened task).outlet (ended done).outlet) tasks finished
     → AreRelayed told job ended answer names finished
 relayed_from told job opened ended answer [] [] [] fresh finishes = record { relayed = []; each = tt; answers = refl; back = refl; same = refl }
 relayed_from told job opened ended answer [] [] (done ∷ finished) fresh finishes = absurd finishes
@@ -39,7 +39,7 @@ relayed_from told job opened ended answer (name ∷ names) (task ∷ tasks) (don
     let rest = relayed_from told job opened ended answer names tasks finished fresh.1 finishes.1 in
     record {
       relayed = record { opened = opened task; ended = ended done; answer = answer done } ∷ rest.relayed;
-      each = (record { fresh = fresh.0; finishes = finishes.0 }, rest.each);
+      each = (record { fresh = fresh.0; finishes = finishes.0.finishes; in_time = finishes.0.in_time }, rest.each);
       answers = ap (λ (xs : List Answer). answer done ∷ xs) rest.answers;
       back = ap (λ (xs : List Device). both (ended done) ++ xs) rest.back;
       same = ap (λ n. suc n) rest.same;

@@ -10,11 +10,11 @@ use Rattle.relay_model.specs.declared.status.Status.{Status}
 use Rattle.relay_model.specs.declared.status.Status.TheVariants as exit
 use Rattle.relay_model.specs.Answers.{Relays}
 use Rattle.relay_model.specs.Lines.{IsWritten, memory_line, usage_line}
-use Rattle.relay_model.specs.Run.{HasCause, IsReported, RelaysAll, TranslatesAll}
+use Rattle.relay_model.specs.Run.{HasCause, IsReported, RelaysAll, StopsInTime, TranslatesAll}
 use Rattle.relay_model.specs.World.{TellsOnly, World}
 use Rattle.relay_model.proofs.AnswerLemmas.{not_usage, of_relay, untouched}
 use Rattle.relay_top.specs.Batch.{Batches}
-use Rattle.relay_top.specs.Commands.{Does, IfDrill, IfRelay, IsCausedAs, IsWholeAs, RunsAs, TranslatesAs, Unless, UnlessBatch}
+use Rattle.relay_top.specs.Commands.{Copies, Does, IfCopy, IfDrill, IfRelay, IsCausedAs, IsWholeAs, RunsAs, TranslatesAs, Unless, UnlessBatch}
 use Rattle.relay_top.specs.Drill.{Drills}
 use Rattle.relay_top.proofs.BatchCauseLemmas.{Caused, Translated, WholeWhereClean, batch_caused, batch_reads_nothing, batch_translated, batch_whole}
 use Rattle.relay_top.proofs.DrillLemmas.{drill_caused, drill_keeps, drill_untouched, drill_whole}
@@ -30,7 +30,7 @@ unless P Q None f p = f p
 unless P Q (Some it) f p = tt
 
 module _ (words : List (List ℕ)) (status : Status) (was is : World) where
-  pub copies : (command : LocalCommand) → Relays (job_of (Local command)) status was is → Does words (Local command) status was is
+  pub copies : (command : LocalCommand) → Copies (job_of (Local command)) status was is → Does words (Local command) status was is
   copies (Copy job) relays = relays
 
   abbrev pub Ran : Result Command ℕ → Type 0
@@ -40,7 +40,7 @@ module _ (words : List (List ℕ)) (status : Status) (was is : World) where
 
   pub translated : Translated → (asked : Result Command ℕ) → Ran asked → IfOk asked (λ command. TranslatesAs words command status was is)
   translated law (Err word) refuses = tt
-  translated law (Ok (Local (Copy job))) relays = of_relay (λ job status sb sa kb ka. TranslatesAll job sb sa kb ka) law job status was is relays
+  translated law (Ok (Local (Copy job))) relays = of_relay (λ job status sb sa kb ka. TranslatesAll job sb sa kb ka) law job status was is relays.relays
   translated law (Ok (Threaded (Pump job))) relays = of_relay (λ job status sb sa kb ka. TranslatesAll job sb sa kb ka) law job status was is relays
   translated law (Ok (Threaded (Drill seed count job))) drills = tt
   translated law (Ok (Threaded (Batch workers job names_from))) batches = batch_translated law (drop names_from words) names_from job status was is batches
@@ -50,14 +50,14 @@ module _ (words : List (List ℕ)) (status : Status) (was is : World) where
 
   pub whole : WholeWhereClean → (asked : Result Command ℕ) → Ran asked → status ≡ exit.Clean → IfOk asked (λ command. IsWholeAs words command was is)
   whole law (Err word) refuses clean = tt
-  whole law (Ok (Local (Copy job))) relays clean = of_clean law job relays clean
+  whole law (Ok (Local (Copy job))) relays clean = of_clean law job relays.relays clean
   whole law (Ok (Threaded (Pump job))) relays clean = of_clean law job relays clean
   whole law (Ok (Threaded (Drill seed count job))) drills clean = drill_whole seed count job status was is drills clean
   whole law (Ok (Threaded (Batch workers job names_from))) batches clean = batch_whole law (drop names_from words) names_from job status was is batches clean
 
   pub caused : Caused → (asked : Result Command ℕ) → Ran asked → IfOk asked (λ command. IsCausedAs command status was is)
   caused law (Err word) refuses = tt
-  caused law (Ok (Local (Copy job))) relays = of_relay (λ job status sb sa kb ka. HasCause status sb sa kb ka) law job status was is relays
+  caused law (Ok (Local (Copy job))) relays = of_relay (λ job status sb sa kb ka. HasCause status sb sa kb ka) law job status was is relays.relays
   caused law (Ok (Threaded (Pump job))) relays = of_relay (λ job status sb sa kb ka. HasCause status sb sa kb ka) law job status was is relays
   caused law (Ok (Threaded (Drill seed count job))) drills = drill_caused seed count job status was is drills
   caused law (Ok (Threaded (Batch workers job names_from))) batches = batch_caused law (drop names_from words) names_from job status was is batches
@@ -65,7 +65,7 @@ module _ (words : List (List ℕ)) (status : Status) (was is : World) where
   -- ---- what is as it was
 
   no_usage : Caused → (command : Command) → Does words command status was is → status ≢ exit.Usage
-  no_usage law (Local (Copy job)) relays = not_usage job status was is relays
+  no_usage law (Local (Copy job)) relays = not_usage job status was is relays.relays
   no_usage law (Threaded (Pump job)) relays = not_usage job status was is relays
   no_usage law (Threaded (Drill seed count job)) drills = λ usage. elim (drill_caused seed count job status was is drills).few [
     | inl clean ↦ cc
@@ -87,7 +87,7 @@ module _ (words : List (List ℕ)) (status : Status) (was is : World) where
   told_only law (Ok command) does is_usage = absurd (no_usage law command does is_usage)
 
   pub without_memory : (command : Command) → Does words command status was is → status ≡ exit.OutOfMemory → UnlessBatch command (TellsOnly memory_line was is)
-  without_memory (Local (Copy job)) relays memory = untouched job status was is relays memory
+  without_memory (Local (Copy job)) relays memory = untouched job status was is relays.relays memory
   without_memory (Threaded (Pump job)) relays memory = untouched job status was is relays memory
   without_memory (Threaded (Drill seed count job)) drills memory = drill_untouched seed count job status was is drills memory
   without_memory (Threaded (Batch workers job names_from)) batches memory = tt
@@ -97,7 +97,7 @@ module _ (words : List (List ℕ)) (status : Status) (was is : World) where
   memory_unless P f (Ok command) does memory = unless (TellsOnly memory_line was is) P (batch_of command) f (without_memory command does memory)
 
   keeps_source : (command : Command) → Does words command status was is → status ≡ exit.OutOfMemory → is.source ≡ was.source
-  keeps_source (Local (Copy job)) relays memory = (untouched job status was is relays memory).tells.source
+  keeps_source (Local (Copy job)) relays memory = (untouched job status was is relays.relays memory).tells.source
   keeps_source (Threaded (Pump job)) relays memory = (untouched job status was is relays memory).tells.source
   keeps_source (Threaded (Drill seed count job)) drills memory = (drill_keeps seed count job status was is drills).source
   keeps_source (Threaded (Batch workers job names_from)) batches memory = batch_reads_nothing (drop names_from words) names_from job status was is batches
@@ -109,7 +109,7 @@ module _ (words : List (List ℕ)) (status : Status) (was is : World) where
 
   pub doors_untouched : (asked : Result Command ℕ) → Ran asked → IfOk asked (λ command. UnlessBatch command (is.doors ≡ was.doors))
   doors_untouched (Err word) refuses = tt
-  doors_untouched (Ok (Local (Copy job))) relays = relays.doors
+  doors_untouched (Ok (Local (Copy job))) relays = relays.relays.doors
   doors_untouched (Ok (Threaded (Pump job))) relays = relays.doors
   doors_untouched (Ok (Threaded (Drill seed count job))) drills = (drill_keeps seed count job status was is drills).doors
   doors_untouched (Ok (Threaded (Batch workers job names_from))) batches = tt
@@ -118,10 +118,15 @@ module _ (words : List (List ℕ)) (status : Status) (was is : World) where
 
   pub relay_at : (P : Job → Type 0) → ((job : Job) → Relays job status was is → P job) → (asked : Result Command ℕ) → Ran asked → IfOk asked (λ command. IfRelay command P)
   relay_at P so (Err word) refuses = tt
-  relay_at P so (Ok (Local (Copy job))) relays = so job relays
+  relay_at P so (Ok (Local (Copy job))) relays = so job relays.relays
   relay_at P so (Ok (Threaded (Pump job))) relays = so job relays
   relay_at P so (Ok (Threaded (Drill seed count job))) drills = tt
   relay_at P so (Ok (Threaded (Batch workers job names_from))) batches = tt
+
+  pub copy_in_time : (asked : Result Command ℕ) → Ran asked → IfOk asked (λ command. IfCopy command (λ job. StopsInTime job was.source is.source))
+  copy_in_time (Err word) refuses = tt
+  copy_in_time (Ok (Local (Copy job))) copies = copies.in_time
+  copy_in_time (Ok (Threaded command)) does = tt
 
   pub drill_at : (P : ℕ → ℕ → Job → Type 0) → ((seed count : ℕ) (job : Job) → Drills seed count job status was is → P seed count job) → (asked : Result Command ℕ) → Ran asked → IfOk asked (λ command. IfDrill command P)
   drill_at P so (Err word) refuses = tt

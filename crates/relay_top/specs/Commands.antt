@@ -5,7 +5,7 @@ use Rattle.relay_model.specs.declared.status.Status.{Status}
 use Rattle.relay_model.specs.declared.status.Status.TheVariants as exit
 use Rattle.relay_model.specs.Answers.{Relays}
 use Rattle.relay_model.specs.Lines.{usage_line}
-use Rattle.relay_model.specs.Run.{HasCause, RelaysAll, TranslatesAll}
+use Rattle.relay_model.specs.Run.{HasCause, RelaysAll, StopsInTime, TranslatesAll}
 use Rattle.relay_model.specs.World.{TellsOnly, World}
 use Rattle.relay_top.specs.Batch.{Batches, HasBatchCause, RelaysEach, TranslatesNames}
 use Rattle.relay_top.specs.Drill.{Drills, HasDrillCause, IsSummedUp}
@@ -17,9 +17,14 @@ use Rattle.relay_words.specs.declared.command.ThreadedCommand.TheVariants.{Pump,
 
 -- ---- what a command does
 
+-- A copy relays its source to its sink, and takes at most a segment behind a bad frame.
+pub record Copies (job : Job) (status : Status) (was is : World) : Type 0 where
+  pub relays : Relays job status was is
+  pub in_time : StopsInTime job was.source is.source
+
 -- What the command of these words does, from a world as it was to what it is.
 abbrev pub Does : List (List ℕ) → Command → Status → World → World → Type 0
-Does words (Local (Copy job)) status was is = Relays job status was is
+Does words (Local (Copy job)) status was is = Copies job status was is
 Does words (Threaded (Pump job)) status was is = Relays job status was is
 Does words (Threaded (Drill seed count job)) status was is = Drills seed count job status was is
 Does words (Threaded (Batch workers job names_from)) status was is = Batches (drop names_from words) names_from job status was is
@@ -74,6 +79,11 @@ IsCaused words status was is = IfOk (command_of words) (λ command. IsCausedAs c
 -- This holds of the job, where the command relays the source.
 abbrev pub IfRelay : Command → (Job → Type 0) → Type 0
 IfRelay command P = IfSome (relay_of command) P
+
+-- This holds of its job, where the command is a copy.
+abbrev pub IfCopy : Command → (Job → Type 0) → Type 0
+IfCopy (Local (Copy job)) P = P job
+IfCopy (Threaded command) P = ⊤
 
 -- This holds of its numbers and its job, where the command is a drill.
 abbrev pub IfDrill : Command → (ℕ → ℕ → Job → Type 0) → Type 0

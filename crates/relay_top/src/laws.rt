@@ -3,11 +3,11 @@
 ghost use Rattle.std.specs.Prelude.{drop, ◌≡◌, ◌≢◌, ◌↔◌, ◌⊎◌, ℕ, List, IsErr, IfErr, IfOk};
 ghost use Rattle.relay_model.specs.Answers.{IsRelayed};
 ghost use Rattle.relay_model.specs.Lines.{IsWritten, memory_line, usage_line};
-ghost use Rattle.relay_model.specs.Run.{IsComplete};
+ghost use Rattle.relay_model.specs.Run.{IsComplete, StopsInTime};
 ghost use Rattle.relay_model.specs.World.{World};
 ghost use Rattle.relay_words.specs.Words.{IfBatch, command_of};
 ghost use Rattle.relay_top.specs.Batch.{Batches, CompletesBatch};
-ghost use Rattle.relay_top.specs.Commands.{IfDrill, IfRelay, IsCaused, IsWhole, Runs, Translates, UnlessBatch};
+ghost use Rattle.relay_top.specs.Commands.{IfCopy, IfDrill, IfRelay, IsCaused, IsWhole, Runs, Translates, UnlessBatch};
 ghost use Rattle.relay_top.specs.Drill.{Drills, HasGained, SumsUp};
 
 use relay_model::{
@@ -47,11 +47,14 @@ pub fn what_is_untouched()
 
 /// But for want of memory, `copy` and `pump` made a run, which took what the source lost, wrote its translation to the sink, and
 /// the status and the line say how it ended. Where no device failed and all that the source held is lawful, the status is clean.
+/// `copy` takes at most a segment behind a bad frame.
 pub fn what_relays_do()
     ensures relayed { (words : List (List ℕ)) (status : Status) (was is : World) → Runs words status was is → status ≢ Status.OutOfMemory →
         IfOk (command_of words) (λ command. IfRelay command (λ job. IsRelayed job status was is)) }
     ensures complete { (words : List (List ℕ)) (status : Status) (was is : World) → Runs words status was is → status ≢ Status.OutOfMemory →
         IfOk (command_of words) (λ command. IfRelay command (λ job. IsComplete job status was.source is.source was.sink is.sink)) }
+    ensures in_time { (words : List (List ℕ)) (status : Status) (was is : World) → Runs words status was is →
+        IfOk (command_of words) (λ command. IfCopy command (λ job. StopsInTime job was.source is.source)) }
 {
     complete_where_lawful();
 }

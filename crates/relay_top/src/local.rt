@@ -3,11 +3,10 @@
 ghost use Rattle.std.specs.Prelude.{◌≡◌, ℕ, List, true};
 ghost use Rattle.edge_core.specs.Doors.{DoorsState};
 ghost use Rattle.frame_grammar.specs.Job.{IsInRange};
-ghost use Rattle.relay_model.specs.Answers.{Relays};
 ghost use Rattle.relay_model.specs.World.{world};
 ghost use Rattle.relay_words.specs.Words.{is_local as is_local_of, job_of, texts};
 ghost use Rattle.relay_words.specs.declared.command.Command.TheVariants.{Local};
-ghost use Rattle.relay_top.specs.Commands.{Does, IsCaused, IsWhole, Runs, Translates};
+ghost use Rattle.relay_top.specs.Commands.{Copies, Does, IsCaused, IsWhole, Runs, Translates};
 
 use crate::laws::what_runs_come_to;
 use crate::telling::tell_usage;
@@ -26,7 +25,7 @@ use std::alloc::Global;
 /// |---|---|
 /// | `Clean` | The source was read to its end, and all of it was relayed. |
 /// | `Usage` | The words are no command. Nothing is read or written. |
-/// | `BadFrame` | A frame is bad. What came before it is written, and nothing after it. |
+/// | `BadFrame` | A frame is bad. What came before it is written, and nothing after it. At most a segment is read behind it. |
 /// | `Truncated` | The source ends within a frame. What came before that is written. |
 /// | `ReadFault` | A read failed. The whole frames that were taken are written. |
 /// | `WriteFault` | A write or a flush failed. |
@@ -109,7 +108,7 @@ fn copy<S: Source, K: Sink, E: Sink>(
     faults: &mut E,
 ) -> Status
     requires { IsInRange job.now }
-    ensures { (doors : DoorsState) → Relays job.now result
+    ensures { (doors : DoorsState) → Copies job.now result
         (world (S.state source.old) doors (K.state sink.old) (E.state faults.old))
         (world (S.state source.new) doors (K.state sink.new) (E.state faults.new)) }
 {

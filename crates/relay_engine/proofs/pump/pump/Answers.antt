@@ -2,12 +2,12 @@
 use Rattle.std.proofs.Common.{◌∙◌, refl}
 use Rattle.pipe_core.specs.Progress.{total}
 use Rattle.relay_engine.proofs.PumpLemmas.{idle, lends_none, moved_less, moved_on, never_refused, rest_less, rest_open, starts}
-use Rattle.relay_engine.proofs.PumpFillLemmas.{filled, finished, rest_taken}
+use Rattle.relay_engine.proofs.PumpFillLemmas.{filled, finished, rest_taken, stopped}
 use Rattle.relay_engine.proofs.pump.pump.Goals as goal
 
 pub loop-filling-init : goal.loop-filling-init
 loop-filling-init g c = record {
-  pumps = starts _ _ _ _ _ _ c.new-filling.ensures c.new-draining.ensures c.requires.stands c.requires.draft c.requires.room c.requires.thresholds;
+  pumps = starts _ _ _ _ _ _ c.new-filling.ensures c.new-draining.ensures c.requires.stands c.requires.draft c.requires.room c.requires.thresholds c.requires.segment;
   attended = rw (c.requires.stands.marks.gone) refl;
   no_lend = c.requires.stands.marks.lent;
 }
@@ -35,24 +35,27 @@ pub loop-filling-smaller : goal.loop-filling-smaller
 loop-filling-smaller g c =
     let e = c.fill_once-ending.ensures in
     let rest = idle _ _ _ _ _ c.loop-filling.filling _ c.step.new.self _ c.step.new.end c.loop-filling.ending c.in-Ok-Idle.field-0-0 _ c.in-Ok-Idle.ensures.may c.loop-filling.invariant.pumps (rw c.in-Ok-Idle.field-0-is at c.in-Ok-Idle.ensures.step) in
-    let full = filled _ _ _ _ _ _ _ _ _ _ _ _ c.fill_once-ending.result c.never_both.ensures.any rest (e.fills rest.on.h (total rest.on.h) (rest_taken _ _ _ _ _ _ _ _ _ rest)) (record { options = e.options; draft = e.draft; limit = e.limit; within = e.within }) in
+    let full = filled _ _ _ _ _ _ _ _ _ _ _ _ c.fill_once-ending.result c.never_both.ensures.any rest (e.fills rest.on.h (total rest.on.h) (rest_taken _ _ _ _ _ _ _ _ _ rest)) (record { options = e.options; draft = e.draft; limit = e.limit; within = e.within; one_read = e.one_read }) in
     rest_less c.loop-filling.filling c.loop-filling.pipe c.loop-filling.ending _ rest.none_yet full.less
 
 pub loop-filling-preserved : goal.loop-filling-preserved
 loop-filling-preserved g c =
     let e = c.fill_once-ending.ensures in
     let rest = idle _ _ _ _ _ c.loop-filling.filling _ c.step.new.self _ c.step.new.end c.loop-filling.ending c.in-Ok-Idle.field-0-0 _ c.in-Ok-Idle.ensures.may c.loop-filling.invariant.pumps (rw c.in-Ok-Idle.field-0-is at c.in-Ok-Idle.ensures.step) in
-    let full = filled _ _ _ _ _ _ _ _ _ _ _ _ c.fill_once-ending.result c.never_both.ensures.any rest (e.fills rest.on.h (total rest.on.h) (rest_taken _ _ _ _ _ _ _ _ _ rest)) (record { options = e.options; draft = e.draft; limit = e.limit; within = e.within }) in
+    let full = filled _ _ _ _ _ _ _ _ _ _ _ _ c.fill_once-ending.result c.never_both.ensures.any rest (e.fills rest.on.h (total rest.on.h) (rest_taken _ _ _ _ _ _ _ _ _ rest)) (record { options = e.options; draft = e.draft; limit = e.limit; within = e.within; one_read = e.one_read }) in
     record {
       pumps = full.on;
       attended = rw (e.gone) c.in-Ok-Idle.ensures.may;
       no_lend = e.lent ∙ lends_none c.step.new.self c.step.new.end rest.on.fresh (rw c.in-Ok-Idle.field-0-is at c.in-Ok-Idle.ensures.step).lends;
     }
 
-pub returns-in-Ok-Ended : goal.returns-in-Ok-Ended
-returns-in-Ok-Ended g c =
+pub returns-in-Ok-Ended-clause-reported : goal.returns-in-Ok-Ended-clause-reported
+returns-in-Ok-Ended-clause-reported g c =
     rw (c.outcome_of.ensures, c.unwrap_or-taking.ensures, c.code.ensures, c.frames.ensures, c.taken.ensures.taken, c.written.ensures)
     (finished _ _ _ _ _ _ c.loop-filling.filling _ c.step.new.self _ c.step.new.end c.loop-filling.ending c.in-Ok-Ended.end c.requires.range.limit c.loop-filling.invariant.pumps (rw c.in-Ok-Ended.field-0-is at c.in-Ok-Ended.ensures.step))
+
+pub returns-in-Ok-Ended-clause-in_time : goal.returns-in-Ok-Ended-clause-in_time
+returns-in-Ok-Ended-clause-in_time g c = stopped _ _ _ _ _ _ _ _ _ c.in-Ok-Ended.end c.loop-filling.invariant.pumps
 
 pub unreachable-requires : goal.unreachable-requires
 unreachable-requires g c = never_refused _ _ _ _ _ _ c.loop-filling.filling _ c.step.new.self _ c.step.new.end c.loop-filling.ending c.in-Err.field-0 c.loop-filling.invariant.pumps c.in-Err.ensures.step

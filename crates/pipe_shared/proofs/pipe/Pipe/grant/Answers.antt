@@ -20,3 +20,4 @@ invariant_of-w-2 c =
     let size : c.w.inside.part.size ≡ room_of c.self.inside.options = search rules in
     writer_granted c.look.new.seat c.w.inside.part c.grant-2.new.self c.in-Ok-grant.granted w after.draft after.free after.size
     (omega (arith, w.fits, c.in-Ok.ensures.won.1, c.size-capacity.ensures, c.draft_len-draft.ensures, has.granted, has.fits, size))
+    (λ name named. search (rules, has.granted, name, named, c.self.inside.options))
