@@ -40,6 +40,19 @@ held_len m h s = rw (s.committed, s.consumed) (sym (length-drop (consumed h) (to
 reads_is : (n : ℕ) (m : Marks) (h : List Call) → Counts m h → reads_now n m ≡ read_is_ready n h
 reads_is n m h s = rw (s.read_canceled, s.ended, held_len m h s, s.committed, s.examined) refl
 
+-- the same of marks that stand for a history
+pub read_ready : (n : ℕ) (m : Marks) (h : List Call) → StandsFor m h → reads_now n m ≡ read_is_ready n h
+read_ready n m h s = reads_is n m h (counts m h s)
+
+-- who has completed leaves no read waiting
+pub unended : (n : ℕ) (m : Marks) → reads_now n m ≡ false → IsNone m.ended
+unended n m unready = each m.read_canceled m.ended (nat_lt 0 (m.committed - m.examined) && nat_le n (m.committed - m.consumed)) unready
+  where
+    each : (a : Bool) (o : Option ℕ) (b : Bool) → a || is_some o || b ≡ false → IsNone o
+    each a None b e = refl
+    each true (Some code) b e = absurd cc
+    each false (Some code) b e = absurd cc
+
 lacks_is : (o : Option ℕ) (m : Marks) (h : List Call) → Counts m h → lacks_now o m ≡ lacks o h
 lacks_is None m h s = refl
 lacks_is (Some n) m h s = ap (λ (b : Bool). nat_lt 0 n && not b) (reads_is n m h s)

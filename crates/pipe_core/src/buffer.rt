@@ -32,7 +32,7 @@ impl Model for Buffer {
 }
 
 impl Buffer {
-    // An empty buffer of that capacity.
+    /// An empty buffer of that capacity.
     pub fn make(alloc: Global, capacity: usize) -> Result<Buffer, AllocError>
         ensures { IfOk result (λ b. b ≡ record { held = []; draft = []; free = replicate capacity 0 }) }
     {
@@ -48,14 +48,14 @@ impl Buffer {
         })
     }
 
-    // How many bytes the three parts have in all.
+    /// How many bytes the three parts have in all.
     pub fn capacity(&self) -> usize
         ensures { result ≡ capacity_of self.now }
     {
         self.capacity
     }
 
-    // The free part.
+    /// The free part.
     pub fn free_mut(&mut self) -> &mut [u8]
         ensures* lends { sem 𝓛 (LendsFree self.entry result) }
         ensures value { result.now ≡ self.old.free }
@@ -65,7 +65,7 @@ impl Buffer {
         self.room.slice_mut(from..to)
     }
 
-    // The first bytes of the free part.
+    /// The first bytes of the free part.
     pub fn free_front_mut(&mut self, n: usize) -> &mut [u8]
         requires { n ≤ length self.old.free }
         ensures* lends { sem 𝓛 (LendsFree self.entry result) }
@@ -76,14 +76,14 @@ impl Buffer {
         self.room.slice_mut(from..to)
     }
 
-    // The length of the free part.
+    /// The length of the free part.
     pub fn free_len(&self) -> usize
         ensures { result ≡ length self.now.free }
     {
         self.start + self.capacity - self.end
     }
 
-    // The first bytes of the free part join the draft.
+    /// The first bytes of the free part join the draft.
     pub fn extend_draft(&mut self, n: usize)
         requires { n ≤ length self.old.free }
         ensures { self.new ≡ with_draft self.old n }
@@ -91,7 +91,7 @@ impl Buffer {
         self.end += n;
     }
 
-    // These bytes are copied behind what is held, or dropped.
+    /// These bytes are copied behind what is held, or dropped.
     pub fn commit(&mut self, bytes: &[u8], dropped: bool)
         requires no_draft { self.old.draft ≡ [] }
         requires room { length bytes.now ≤ length self.old.free }
@@ -105,14 +105,14 @@ impl Buffer {
         self.settle_draft(false);
     }
 
-    // The length of the draft.
+    /// The length of the draft.
     pub fn draft_len(&self) -> usize
         ensures { result ≡ length self.now.draft }
     {
         self.end - self.committed
     }
 
-    // The draft is committed, or dropped.
+    /// The draft is committed, or dropped.
     pub fn settle_draft(&mut self, dropped: bool)
         ensures { self.new ≡ settled dropped self.old }
     {
@@ -123,14 +123,14 @@ impl Buffer {
         }
     }
 
-    // What is committed and not given up.
+    /// What is committed and not given up.
     pub fn held(&self) -> &[u8]
         ensures { result.now ≡ self.now.held }
     {
         &self.room[self.start..self.committed]
     }
 
-    // Gives up the first of the held bytes.
+    /// Gives up the first of the held bytes.
     pub fn release(&mut self, n: usize)
         requires { n ≤ length self.old.held }
         ensures held { self.new.held ≡ drop n self.old.held }
@@ -148,7 +148,7 @@ impl Buffer {
         }
     }
 
-    // Gives up all of the held bytes.
+    /// Gives up all of the held bytes.
     pub fn release_all(&mut self)
         ensures held { self.new.held ≡ [] }
         ensures draft { self.new.draft ≡ self.old.draft }

@@ -1,7 +1,8 @@
 //! A pipe's marks and flags, and what each call answers by them.
 
-ghost use Rattle.std.specs.Prelude.{◌≡◌, ◌+◌, ◌^◌, ◌<◌, ◌≤◌, ◌↔◌, ℕ, List, [], length, is_some, unwrap_or, IsNone, IsErr, IfErr, IfOk, OnErr};
-ghost use Rattle.pipe_core.specs.History.{Run, Commit, EndWriter, Read, Advance, EndReader, CancelRead, CancelFlush, bytes_of};
+ghost use Rattle.std.specs.Prelude.{◌≡◌, ◌+◌, ◌^◌, ◌<◌, ◌≤◌, ◌↔◌, ℕ, List, [], length, is_some, unwrap_or, false, IsNone, IsErr, IfErr, IfOk, OnErr};
+ghost use Rattle.pipe_core.specs.History.{Run, Call, Commit, EndWriter, Read, Advance, EndReader, CancelRead, CancelFlush, bytes_of};
+ghost use Rattle.pipe_core.specs.Reads.{read_is_ready};
 ghost use Rattle.pipe_core.specs.Answers.{Flushed, Gave, Woke};
 ghost use Rattle.pipe_core.specs.Standing.{StandsFor, AreThresholds, MayAdvance, ControlAnswers};
 
@@ -218,6 +219,21 @@ impl Control {
         };
         self.marks = after;
         after.woken_since(&before)
+    }
+
+    // Whether a read for at least `n` bytes would be ready.
+    pub(crate) fn is_read_ready(&self, n: u64) -> bool
+        ensures told { (h : List Call) → StandsFor self.now h → result ≡ read_is_ready n h }
+        ensures unended { result ≡ false → IsNone self.now.ended }
+    {
+        self.marks.reads_now(n)
+    }
+
+    // Whether a lend stands.
+    pub(crate) fn is_lending(&self) -> bool
+        ensures { result ≡ is_some self.now.lent }
+    {
+        self.marks.lent.is_some()
     }
 
     // The total.

@@ -10,6 +10,7 @@ mod marks;
 mod plain_pipe;
 mod reply;
 
+pub use buffer::Buffer;
 pub use cases::{
     canceled_flush_leaves_pause, canceled_read_at_least_lets_pause, canceled_read_keeps_bytes,
     commit_during_a_lend, examined_never_falls, lend_cases, most_bytes, pause_ends_below_resume,

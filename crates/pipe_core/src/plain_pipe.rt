@@ -1,8 +1,9 @@
 //! A pipe over one buffer, for one thread.
 
-ghost use Rattle.std.specs.Prelude.{◌≡◌, ◌+◌, ◌^◌, ◌<◌, ◌≤◌, ◌↔◌, ℕ, List, [], ◌∷◌, length, take, unwrap_or, IsNone, IsSome, Some, IsErr, IfErr, IfOk, OnErr, OnOk};
+ghost use Rattle.std.specs.Prelude.{◌≡◌, ◌+◌, ◌^◌, ◌<◌, ◌≤◌, ◌↔◌, ℕ, List, [], ◌∷◌, length, take, is_some, unwrap_or, false, IsNone, IsSome, Some, IsErr, IfErr, IfOk, OnErr, OnOk};
 ghost use Rattle.std.specs.Borrow.{sem};
 ghost use Rattle.pipe_core.specs.History.{Run, Call, Commit, Read, Advance, EndReader, CancelRead, CancelFlush, bytes_of, closing, AreRunsOf};
+ghost use Rattle.pipe_core.specs.Reads.{read_is_ready};
 ghost use Rattle.pipe_core.specs.Lends.{lend};
 ghost use Rattle.pipe_core.specs.Answers.{Flushed, Gave, Woke};
 ghost use Rattle.pipe_core.specs.Standing.{AreThresholds, MayAdvance};
@@ -144,6 +145,14 @@ impl PlainPipe {
         Ok(answer)
     }
 
+    /// Whether a read for at least `n` bytes would be answered Ready. It is no call of the pipe's history.
+    pub fn is_read_ready(&self, n: u64) -> bool
+        ensures told { (h : List Call) → HoldsFor self.now h → result ≡ read_is_ready n h }
+        ensures unended { result ≡ false → IsNone self.now.control.ended }
+    {
+        self.control.is_read_ready(n)
+    }
+
     /// Lends all that is committed and not consumed, as `Control::read` answers. The bytes stay where they are.
     pub fn read(&mut self) -> (ReadReply, Wake)
         requires attended { IsNone self.old.control.gone }
@@ -164,6 +173,13 @@ impl PlainPipe {
         ensures bytes { self.new.bytes ≡ self.old.bytes }
     {
         self.control.read_at_least(n)
+    }
+
+    /// Whether a lend stands.
+    pub fn is_lending(&self) -> bool
+        ensures { result ≡ is_some self.now.control.lent }
+    {
+        self.control.is_lending()
     }
 
     /// The bytes that the last read lent, in place: `ReadResult.Buffer`. What was committed since is not among them. Where no
