@@ -1,0 +1,4 @@
+pub mod ToldLemmas
+pub mod ReaderLemmas
+pub mod WriterLemmas
+pub mod CountLemmas

@@ -1,0 +1,5 @@
+pub mod Reader
+pub mod Reads
+pub mod Writer
+pub mod Lending
+pub mod Cases
