@@ -1,0 +1,4 @@
+mod WeighLemmas
+mod StepLemmas
+mod MomentLemmas
+mod RentLemmas
