@@ -1,4 +1,4 @@
-//! What the pipes and what they stand on answer on known runs: segments, turns, a control and the pipe over one buffer, the pipe of
+//! What the pipes and what they stand on answer on known runs: segments, a pool of them, turns, a control and the pipe over one buffer, the pipe of
 //! two threads, and that of one.
 #![tactic(auto)]
 
@@ -14,6 +14,8 @@ mod local;
 mod plain;
 #[cfg(test)]
 mod player;
+#[cfg(test)]
+mod pools;
 #[cfg(test)]
 mod replies;
 #[cfg(test)]

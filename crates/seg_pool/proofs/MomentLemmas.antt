@@ -1,5 +1,5 @@
 -- What a pass knows of a moment: of itself, and with all parts of the pool.
-use Rattle.std.proofs.Common.{◌≡◌, ◌≤◌, ◌<◌, ◌+◌, ◌-◌, ◌^◌, ℕ, zero, suc, List, [], ◌∷◌, ◌++◌, length, set, sym, refl, ap, ◌∙◌, subst, arith}
+use Rattle.std.proofs.Common.{◌≡◌, ◌≤◌, ◌<◌, ◌+◌, ◌-◌, ℕ, zero, suc, List, [], ◌∷◌, ◌++◌, length, set, sym, refl, ap, subst, arith}
 use Rattle.std.specs.List.{All}
 use Rattle.std.proofs.lemmas.List.Elements.{All-nil}
 use mathlib.Core.Option.{some, some-injective, some-ne-none}
@@ -9,9 +9,9 @@ use Rattle.seg_block.specs.declared.block.Block.{Block}
 use Rattle.seg_block.specs.Words.{id_of, size_of}
 use Rattle.seg_block.specs.Numbered.{AreDistinct, mark, times, weigh}
 use Rattle.seg_pool.specs.declared.books.PassBooks.{PassBooks}
-use Rattle.seg_pool.specs.Books.{AtHome, EachIn, IsBalanced, IsInOnePlace, IsOut, IsSet, IsSound, IsSpent, KnowsAll, fresh, ids_of, may_make, spent, total, whole}
+use Rattle.seg_pool.specs.Books.{AtHome, EachIn, IsBalanced, IsInOnePlace, IsOut, IsSound, IsSpent, KnowsAll, fresh, ids_of, may_make, spent, total, whole}
 use Rattle.seg_pool.proofs.WeighLemmas.{weigh-append, weigh-length, weigh_fork, weigh_has, weigh_set, weigh_zero}
-use Rattle.seg_pool.proofs.StepLemmas.{each_set, each_snoc, has_part, is_sound, is_spent, spent_is_sound}
+use Rattle.seg_pool.proofs.StepLemmas.{each_set, each_snoc, is_sound, is_spent}
 
 -- ---- any pass
 
@@ -95,7 +95,7 @@ alone number zeros home passes k v balanced at all =
 pub knows_all : (v : PassBooks) (home : List Block) → AtHome v home → v.parts ≡ whole → KnowsAll v home
 knows_all v home moment all =
     let made : (weight : ℕ → ℕ) → total (λ u. weigh weight u.made) moment.passes ≡ weigh weight v.made =
-      λ weight. alone (λ u. weigh weight u.made) (λ u none. ap (weigh weight) none.made) home moment.passes moment.place v moment.balanced moment.there all in
+    λ weight. alone (λ u. weigh weight u.made) (λ u none. ap (weigh weight) none.made) home moment.passes moment.place v moment.balanced moment.there all in
     record {
       once = λ id. let m = made (mark id) in let o = moment.balanced.once id in omega (arith, m, o);
       placed = λ weight.
@@ -166,7 +166,7 @@ sets_up keep segment k v is home passes balanced at =
     let empty : home ≡ [] = no_blocks home (let p = knows.placed (λ x. 1) in omega (arith, p, made)) in
     let gone : EachIn IsSpent (set passes k spent) = others_are_spent home passes k v balanced at all in
     let only : (number : PassBooks → ℕ) → ((u : PassBooks) → IsSpent u → number u ≡ 0) → total number (set passes k spent ++ n ∷ []) ≡ number n =
-      λ number zeros. let s = weigh-append number (set passes k spent) (n ∷ []) in let z = weigh_zero number (set passes k spent) (λ j u there. zeros u (gone j u there)) in omega (arith, s, z) in
+    λ number zeros. let s = weigh-append number (set passes k spent) (n ∷ []) in let z = weigh_zero number (set passes k spent) (λ j u there. zeros u (gone j u there)) in omega (arith, s, z) in
     record {
       keep = keep;
       segment = segment;

@@ -1,14 +1,15 @@
 -- Blocks that are rented and given back one after the other.
-use Rattle.std.proofs.Common.{◌≡◌, ◌≤◌, ◌<◌, ◌+◌, ◌-◌, ℕ, List, [], ◌∷◌, ◌++◌, length, sym, refl, ap, ◌∙◌, subst, arith}
-use Rattle.std.specs.List.{All}
+use Rattle.std.proofs.Common.{◌≡◌, ◌≤◌, ◌+◌, ℕ, List, [], ◌∷◌, ◌++◌, sym, refl, ap, ◌∙◌, subst, arith}
+use Rattle.std.specs.Prelude.{Result, Ok, Err, IfOk}
+use Rattle.std.specs.declared.alloc.AllocError.{AllocError}
 use Rattle.std.proofs.lemmas.List.Elements.{All-append, All-cons, All-head, All-nil, All-tail}
 use Rattle.seg_block.specs.declared.block.Block.{Block}
 use Rattle.seg_block.specs.Words.{id_of, size_of}
-use Rattle.seg_block.specs.Numbered.{AreDistinct, mark, times, weigh}
+use Rattle.seg_block.specs.Numbered.{AreDistinct, mark, times}
 use Rattle.seg_pool.specs.declared.books.PassBooks.{PassBooks}
 use Rattle.seg_pool.specs.Books.{AreOfSize, AtHome, IsOut, ids_of}
-use Rattle.seg_pool.specs.Steps.{freeing, making, merged, returning, split_new, split_old, taking}
-use Rattle.seg_pool.specs.Words.{Adds, Freed, FromHome, Gives, GivesEach, GivesUp, IsOf, MadeNew, PassState, PoolState, Removes, Rents, RentsEach, ToHome}
+use Rattle.seg_pool.specs.Steps.{making, merged, split_new, split_old}
+use Rattle.seg_pool.specs.Words.{Adds, Freed, FromHome, Gives, GivesEach, IsOf, MadeNew, PassState, PoolState, Removes, Rents, RentsEach, ToHome}
 use Rattle.seg_pool.proofs.WeighLemmas.{weigh-append, weigh_without}
 use Rattle.seg_pool.proofs.StepLemmas.{ids_append}
 use Rattle.seg_pool.proofs.MomentLemmas.{are_distinct}
@@ -25,15 +26,22 @@ gives_one v w id mine (Freed home full moment is) = record {
   parts = ap (λ (u : PassBooks). u.parts) is;
 }
 
+pub makes_one : (v w : PassBooks) (id : ℕ) → id ≡ v.next → w ≡ making v → Adds v (id ∷ []) w
+makes_one v w id named is = record {
+  out = λ x. let same = ap (λ (u : PassBooks). times x u.out) is in let more = weigh-append (mark x) v.out (v.next ∷ []) in let marked = ap (mark x) named in omega (arith, same, more, marked);
+  parts = ap (λ (u : PassBooks). u.parts) is;
+}
+
+pub new_adds : (v w : PassBooks) (made : Result Block AllocError) → IfOk made (λ block. (id_of block ≡ v.next) × (w ≡ making v)) → IfOk made (λ block. Adds v (id_of block ∷ []) w)
+new_adds v w (Ok block) is = makes_one v w (id_of block) is.0 is.1
+new_adds v w (Err error) is = tt
+
 pub rents_one : (v w : PassBooks) (id : ℕ) → Rents v id w → Adds v (id ∷ []) w
 rents_one v w id (FromHome block rest named moment is) = record {
   out = λ x. let same = ap (λ (u : PassBooks). times x u.out) is in let more = weigh-append (mark x) v.out (id ∷ []) in omega (arith, same, more);
   parts = ap (λ (u : PassBooks). u.parts) is;
 }
-rents_one v w id (MadeNew named right moment is) = record {
-  out = λ x. let same = ap (λ (u : PassBooks). times x u.out) is in let more = weigh-append (mark x) v.out (v.next ∷ []) in let marked = ap (mark x) named in omega (arith, same, more, marked);
-  parts = ap (λ (u : PassBooks). u.parts) is;
-}
+rents_one v w id (MadeNew named right moment is) = makes_one v w id named is
 
 pub nothing_more : (first between last : PassBooks) (ids : List ℕ) → Adds first ids between → Removes between ids last → Adds first [] last
 nothing_more first between last ids adds removes = record {
@@ -44,10 +52,22 @@ nothing_more first between last ids adds removes = record {
 pub rented_are_distinct : (first last : PassBooks) (ids : List ℕ) (home : List Block) → Adds first ids last → AtHome last home → AreDistinct ids
 rented_are_distinct first last ids home adds moment x = let a = adds.out x in let b = are_distinct last home moment x in omega (arith, a, b)
 
-pub met_again : (v old new last : PassBooks) → Adds (split_old v) [] old → Adds (split_new v) [] new → last ≡ merged old new → Adds v [] last
-met_again v old new last one two met = record {
-  out = λ x. let a = one.out x in let b = two.out x in let c = ap (λ (u : PassBooks). times x u.out) met in let d = weigh-append (mark x) old.out new.out in omega (arith, a, b, c, d);
-  parts = let c = ap (λ (u : PassBooks). u.parts) met in omega (arith, one.parts, two.parts, c);
+pub met_again : (v old new old_later new_later last : PassBooks) (ids more : List ℕ) → old ≡ split_old v → new ≡ split_new v → Adds old ids old_later → Adds new more new_later → last ≡ merged old_later new_later → Adds v (ids ++ more) last
+met_again v old new old_later new_later last ids more stays goes one two met = record {
+  out = λ x.
+      let a = one.out x in
+      let b = two.out x in
+      let c = ap (λ (u : PassBooks). times x u.out) met in
+      let d = weigh-append (mark x) old_later.out new_later.out in
+      let e = weigh-append (mark x) ids more in
+      let f = ap (λ (u : PassBooks). times x u.out) stays in
+      let g = ap (λ (u : PassBooks). times x u.out) goes in
+      omega (arith, a, b, c, d, e, f, g);
+  parts =
+      let c = ap (λ (u : PassBooks). u.parts) met in
+      let f = ap (λ (u : PassBooks). u.parts) stays in
+      let g = ap (λ (u : PassBooks). u.parts) goes in
+      omega (arith, one.parts, two.parts, c, f, g);
 }
 
 -- ---- while blocks are given back
@@ -60,9 +80,6 @@ pub record IsGiving (pool : PoolState) (first : PassBooks) (all rest : List Bloc
   pub enough : (x : ℕ) → times x (ids_of rest) ≤ times x pass.books.out
   pub sizes : AreOfSize pool.segment rest
   pub parts : pass.books.parts ≡ first.parts
-
-pub begins_giving : (pool : PoolState) (all : List Block) (pass : PassState) → IsOf pool pass → ((x : ℕ) → times x (ids_of all) ≤ times x pass.books.out) → AreOfSize pool.segment all → IsGiving pool pass.books all all pass
-begins_giving pool all pass of enough sizes = record { of = of; goes_on = λ last gives. gives; out = λ x. refl; enough = enough; sizes = sizes; parts = refl }
 
 first_is_out : (block : Block) (rest : List Block) (v : PassBooks) → ((x : ℕ) → times x (ids_of (block ∷ rest)) ≤ times x v.out) → IsOut v (id_of block)
 first_is_out block rest v enough = let one = enough (id_of block) in omega (arith, one)
@@ -85,13 +102,6 @@ gives_on pool first all rest behind block pass after giving is of given =
       sizes = All-tail (λ b. size_of b ≡ pool.segment) block behind (subst (AreOfSize pool.segment) is giving.sizes);
       parts = one.parts ∙ giving.parts;
     }
-
--- what all that was given back comes to
-pub all_given : (pool : PoolState) (first : PassBooks) (all : List Block) (pass : PassState) → IsGiving pool first all [] pass → GivesEach first (ids_of all) pass.books × Removes first (ids_of all) pass.books
-all_given pool first all pass giving = (
-  giving.goes_on pass.books refl,
-  record { out = λ x. let a = giving.out x in omega (arith, a); parts = giving.parts },
-)
 
 -- ---- while blocks are rented
 

@@ -1,6 +1,6 @@
 -- Each kind of step keeps the books.
-use Rattle.std.proofs.Common.{◌≡◌, ◌≢◌, ◌≤◌, ◌<◌, ◌+◌, ◌-◌, ◌^◌, ◌⊎◌, ℕ, zero, suc, List, [], ◌∷◌, ◌++◌, length, set, sym, refl, ap, ◌∙◌, subst, arith, ⊎_elim}
-use Rattle.std.specs.List.{All, AllByRecursion}
+use Rattle.std.proofs.Common.{◌≡◌, ◌≢◌, ◌≤◌, ◌<◌, ◌+◌, ◌-◌, ℕ, zero, suc, List, [], ◌∷◌, ◌++◌, length, set, sym, refl, ap, ◌∙◌, subst, arith, ⊎_elim}
+use Rattle.std.specs.List.{AllByRecursion}
 use Rattle.std.proofs.lemmas.List.Elements.{All-append, All-cons, All-head, All-nil, All-tail}
 use mathlib.Core.Option.{some}
 use lib.ListN.{get_elem?}
@@ -10,8 +10,8 @@ use Rattle.seg_block.specs.declared.block.Block.{Block}
 use Rattle.seg_block.specs.Words.{id_of, size_of}
 use Rattle.seg_block.specs.Numbered.{mark, times, weigh}
 use Rattle.seg_pool.specs.declared.books.PassBooks.{PassBooks}
-use Rattle.seg_pool.specs.Books.{AreOfSize, AtHome, EachIn, IsBalanced, IsOut, IsSet, IsSound, IsSpent, ids_of, may_make, spent, total, whole}
-use Rattle.seg_pool.specs.Steps.{Returns, Takes, freeing, making, merged, returning, share_of, split_new, split_old, taking}
+use Rattle.seg_pool.specs.Books.{AreOfSize, AtHome, EachIn, IsBalanced, IsOut, IsSet, IsSound, IsSpent, ids_of, may_make, spent, total}
+use Rattle.seg_pool.specs.Steps.{Returns, Takes, freeing, making, merged, returning, split_new, split_old, taking}
 use Rattle.seg_pool.proofs.WeighLemmas.{weigh-append, weigh-length, weigh_fork, weigh_set, weigh_without}
 
 -- ---- what is so of each pass stays so

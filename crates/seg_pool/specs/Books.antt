@@ -66,7 +66,8 @@ pub record IsBalanced (home : List Block) (passes : List PassBooks) : Type 0 whe
   -- each id is made once at most, and by one pass
   pub once : (id : ℕ) → total (λ v. times id v.made) passes + total (may_make id) passes ≤ 1
   -- what was made is at home, out or freed, once, since that is so of each weight: of the mark of one id, and of 1, which counts
-  pub placed : (weight : ℕ → ℕ) → total (λ v. weigh weight v.made) passes ≡ weigh weight (ids_of home) + (total (λ v. weigh weight v.out) passes + total (λ v. weigh weight v.freed) passes)
+  pub placed : (weight : ℕ → ℕ) → total (λ v. weigh weight v.made) passes
+      ≡ weigh weight (ids_of home) + (total (λ v. weigh weight v.out) passes + total (λ v. weigh weight v.freed) passes)
   pub parts : total (λ v. v.parts) passes ≡ whole
   pub few : total (λ v. length v.made + (v.limit - v.next)) passes ≤ whole
   pub sound : EachIn (IsSound keep segment) passes
@@ -81,7 +82,8 @@ pub record AtHome (v : PassBooks) (home : List Block) : Type 0 where
 -- An id is made once at most, and where it was made it is at home, out or freed, and nowhere else.
 pub record IsInOnePlace (id : ℕ) (home : List Block) (passes : List PassBooks) : Type 0 where
   pub once : total (λ v. times id v.made) passes ≤ 1
-  pub placed : total (λ v. times id v.made) passes ≡ times id (ids_of home) + (total (λ v. times id v.out) passes + total (λ v. times id v.freed) passes)
+  pub placed : total (λ v. times id v.made) passes
+      ≡ times id (ids_of home) + (total (λ v. times id v.out) passes + total (λ v. times id v.freed) passes)
 
 -- The books of a pool whose one pass has the books v.
 pub record KnowsAll (v : PassBooks) (home : List Block) : Type 0 where

@@ -1,12 +1,12 @@
 -- What contracts see of a pool and of its passes.
-use Rattle.std.specs.Prelude.{ℕ, ◌≡◌, ◌+◌, ◌<◌, ◌≤◌, List, [], ◌∷◌, length}
+use Rattle.std.specs.Prelude.{ℕ, ◌≡◌, ◌+◌, ◌-◌, ◌<◌, ◌≤◌, List, [], ◌∷◌, length}
 use Rattle.atomic_table.specs.Seated.{TableId}
 use Rattle.crossbeam_queue.specs.Passes.{Pass, view}
 use Rattle.seg_block.specs.declared.block.Block.{Block}
 use Rattle.seg_block.specs.Words.{id_of}
 use Rattle.seg_block.specs.Numbered.{times}
 use Rattle.seg_pool.specs.declared.books.PassBooks.{PassBooks}
-use Rattle.seg_pool.specs.Books.{AtHome}
+use Rattle.seg_pool.specs.Books.{AtHome, whole}
 use Rattle.seg_pool.specs.Steps.{freeing, making, returning, taking}
 
 -- what a pass of the queue knows
@@ -21,6 +21,19 @@ pub record PoolState : Type 0 where
 pub record PassState : Type 0 where
   pub pool : TableId
   pub books : PassBooks
+
+-- What a pass counts of its books at run time.
+pub record Tallies (parts next limit made freed : ℕ) (v : PassBooks) : Type 0 where
+  pub some_part : 0 < parts
+  pub parts_are : parts ≡ v.parts
+  pub next_is : next ≡ v.next
+  pub limit_is : limit ≡ v.limit
+  pub made_are : made ≡ length v.made
+  pub freed_are : freed ≡ length v.freed
+  pub few_parts : parts ≤ whole
+  pub few_made : made + (limit - next) ≤ whole
+  pub few_freed : freed ≤ whole
+  pub rights : next ≤ limit
 
 -- the pass is of this pool
 pub record IsOf (pool : PoolState) (pass : PassState) : Type 0 where

@@ -2,7 +2,7 @@
 
 use std::collections::LinkedList;
 
-/// How many blocks a pool has made, has at home, has out and has freed.
+/// How many blocks a pool has made, and how many of them are at home, are out and were freed.
 #[derive(Clone, Copy, Debug, PartialEq, Eq)]
 pub struct Books {
     pub made: u64,
@@ -17,14 +17,16 @@ pub struct PassBooks {
     pub keep: u64,
     /// How many bytes each block has.
     pub segment: u64,
-    /// The pass that has all 2^62 parts is the only one.
+    /// How many of the pool's 2^62 parts it has. The pass with all of them is the only one.
     pub parts: u64,
-    /// The pass may make the blocks with the ids from here
+    /// It makes the block with this id next.
     pub next: u64,
-    /// up to here.
+    /// It may make the blocks with ids below this one.
     pub limit: u64,
-    /// The ids of the blocks that it made, has out and has freed, and those of the passes that it took in.
+    /// The ids of the blocks that it has made, also of those that passes made which it took in.
     pub made: LinkedList<u64>,
+    /// The ids of the blocks that are out with it.
     pub out: LinkedList<u64>,
+    /// The ids of the blocks that it has freed, also of those that passes freed which it took in.
     pub freed: LinkedList<u64>,
 }

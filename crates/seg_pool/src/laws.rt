@@ -1,6 +1,6 @@
 //! Laws of the books. These functions do nothing: what they ensure is the law.
 
-ghost use Rattle.std.specs.Prelude.{◌≡◌, ◌<◌, ℕ, List, [], ◌∷◌};
+ghost use Rattle.std.specs.Prelude.{◌≡◌, ◌<◌, ℕ, List, [], ◌∷◌, ◌++◌};
 ghost use mathlib.Core.Option.{some};
 ghost use lib.ListN.{get_elem?};
 ghost use Rattle.seg_block.specs.declared.block.Block.{Block};
@@ -34,7 +34,8 @@ pub fn nothing_is_out()
     ensures { (first between last : PassBooks) (ids : List ℕ) → Adds first ids between → Removes between ids last → Adds first [] last }
 {}
 
-/// Where a pass was split, and both passes have out what they had, and were merged, so has the merged one.
+/// Where a pass was split and merged again, what is out beside what was out before is what both have rented.
 pub fn split_and_merged()
-    ensures { (v old new last : PassBooks) → Adds (split_old v) [] old → Adds (split_new v) [] new → last ≡ merged old new → Adds v [] last }
+    ensures { (v old new old_later new_later last : PassBooks) (ids more : List ℕ) → old ≡ split_old v → new ≡ split_new v →
+        Adds old ids old_later → Adds new more new_later → last ≡ merged old_later new_later → Adds v (ids ++ more) last }
 {}

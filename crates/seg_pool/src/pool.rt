@@ -1,6 +1,6 @@
 //! A pool of blocks, and the passes by which threads rent of it.
 
-ghost use Rattle.std.specs.Prelude.{◌≡◌, ◌≤◌, ◌<◌, ◌+◌, ℕ, List, [], length, IfOk, OnErr};
+ghost use Rattle.std.specs.Prelude.{◌≡◌, ◌≤◌, ◌<◌, ◌+◌, ℕ, List, [], ◌∷◌, length, IfOk, OnErr};
 ghost use Rattle.crossbeam_queue.specs.Passes.{view, IsPassOf};
 ghost use Rattle.seg_block.specs.Memory.{IsBlockSize};
 ghost use Rattle.seg_block.specs.Words.{id_of, size_of};
@@ -23,8 +23,7 @@ type Home = RuledArrayQueue<Block, PassBooks, Balanced>;
 // How many parts all passes have together, and how many ids there are.
 const WHOLE: u64 = 1 << 62;
 
-/// Blocks of one size, which many pipes rent and give back. It keeps some at home, for the next rent, as .NET's
-/// `MemoryPool<T>` may.
+/// Blocks of one size, which many pipes rent and give back, as .NET's `MemoryPool<T>`. Some stay at home for the next rent.
 #[derive(Drop)]
 pub struct Pool {
     home: Home,
@@ -55,28 +54,20 @@ impl Model for Pool {
 }
 
 impl Model for PoolPass {
-    ghost use Rattle.std.specs.Prelude.{◌≡◌, ◌≤◌, ◌<◌, ◌+◌, ◌-◌, [], length};
-    ghost use Rattle.seg_pool.specs.Books.{whole};
-    ghost use Rattle.seg_pool.specs.Words.{PassState, known};
+    ghost use Rattle.std.specs.Prelude.{◌≡◌, []};
+    ghost use Rattle.seg_pool.specs.Words.{PassState, Tallies, known};
 
     ghost Value = { PassState };
 
     ghost view = { λ p. record { pool = p.pass.table_id; books = known p.pass } };
 
-    ghost invariant = { λ p. (p.pass.me.1 ≡ []) × (0 < p.parts) × (p.parts ≡ (known p.pass).parts)
-        × (p.next ≡ (known p.pass).next) × (p.limit ≡ (known p.pass).limit)
-        × (p.made ≡ length (known p.pass).made) × (p.freed ≡ length (known p.pass).freed)
-        × (p.made + (p.limit - p.next) ≤ whole) × (p.freed ≤ whole) × (p.parts ≤ whole) × (p.next ≤ p.limit) };
+    ghost invariant = { λ p. (p.pass.me.1 ≡ []) × Tallies p.parts p.next p.limit p.made p.freed (known p.pass) };
 }
 
 impl Pool {
     /// A pool that keeps at most `keep` blocks at home, each of `segment` bytes, 1 to 65,536, and its one pass, which may
     /// make the blocks with the ids below 2^62. Nothing is made yet. The one refusal is for want of memory.
-    pub fn make(
-        alloc: Global,
-        keep: usize,
-        segment: usize,
-    ) -> Result<(Pool, PoolPass), AllocError>
+    pub fn make(alloc: Global, keep: usize, segment: usize) -> Result<(Pool, PoolPass), AllocError>
         requires keep { 1 ≤ keep }
         requires segment { IsBlockSize segment }
         ensures pool { IfOk result (λ made. (made.0.keep ≡ keep) × (made.0.segment ≡ segment)) }
@@ -133,6 +124,7 @@ impl Pool {
         requires from { IsOf self.now from }
         ensures pool { IsOf self.now into.new }
         ensures merged { into.new.books ≡ merged into.old.books from.books }
+        ensures out { (id : ℕ) → times id into.new.books.out ≡ times id into.old.books.out + times id from.books.out }
         ensures distinct { AreDistinct into.new.books.out }
     {
         let PoolPass {
@@ -150,9 +142,9 @@ impl Pool {
         into.freed += freed;
     }
 
-    /// A block from home, or a new one where none is there. It is out with this pass from then on. Want of memory is the
-    /// one refusal, and comes only where none is at home. Where none is at home and the pass may make no id any more, the
-    /// call doesn't return.
+    /// A block from home, or a new one where none is there, as .NET's `MemoryPool<T>.Rent`. It is out with this pass from
+    /// then on. Want of memory is the one refusal, and comes only where none is at home. Where none is at home and the pass
+    /// may make no id any more, the call doesn't return.
     pub fn rent<R: Wait>(
         &self,
         rt: &R,
@@ -163,6 +155,7 @@ impl Pool {
         ensures pool { IsOf self.now pass.new }
         ensures size { IfOk result (λ block. size_of block ≡ self.now.segment) }
         ensures rented { IfOk result (λ block. Rents pass.old.books (id_of block) pass.new.books) }
+        ensures out { IfOk result (λ block. Adds pass.old.books (id_of block ∷ []) pass.new.books) }
         ensures refused { OnErr result (AtHome pass.old.books [] × (pass.old.books.next < pass.old.books.limit) × (pass.new ≡ pass.old)) }
     {
         match self.home.pop_as::<Rent, R>(rt, &mut pass.pass) {
@@ -195,13 +188,15 @@ impl Pool {
         Ok(block)
     }
 
-    /// Gives a block back: it goes home, or is freed where as many blocks as the pool keeps are at home.
+    /// Gives a block back, as disposing of .NET's `IMemoryOwner<T>` does: it goes home, or is freed where as many blocks as
+    /// the pool keeps are at home.
     pub fn give<R: Wait>(&self, rt: &R, pass: &mut PoolPass, block: Block)
         requires pool { IsOf self.now pass.old }
         requires out { IsOut pass.old.books (id_of block) }
         requires size { size_of block ≡ self.now.segment }
         ensures pool { IsOf self.now pass.new }
         ensures given { Gives pass.old.books (id_of block) pass.new.books }
+        ensures out { Removes pass.old.books (id_of block ∷ []) pass.new.books }
     {
         let id = block.id();
         match self.home.push_as::<Give, R>(rt, &mut pass.pass, block) {

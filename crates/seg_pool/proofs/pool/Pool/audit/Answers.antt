@@ -7,17 +7,17 @@ use Rattle.seg_pool.proofs.pool.Pool.audit.Goals as goal
 pub overflow_sub-result : goal.overflow_sub-result
 overflow_sub-result g c =
     let held = c.len_as-home.ensures.rule.1 in
-    (audits c.pass.inside.made c.pass.inside.freed c.len_as-home.result (view c.pass.inside.pass) c.pass.invariant.5 c.pass.invariant.6 (ap (λ p. p.books.parts) c.pass.view_is ∙ c.requires.all) held.0 held.1 held.2).enough
+    (audits c.pass.inside.made c.pass.inside.freed c.len_as-home.result (view c.pass.inside.pass) c.pass.invariant.1.made_are c.pass.invariant.1.freed_are (ap (λ p. p.books.parts) c.pass.view_is ∙ c.requires.all) held.0 held.1 held.2).enough
 
 pub overflow_sub-result-2 : goal.overflow_sub-result-2
 overflow_sub-result-2 g c =
     let held = c.len_as-home.ensures.rule.1 in
-    (audits c.pass.inside.made c.pass.inside.freed c.len_as-home.result (view c.pass.inside.pass) c.pass.invariant.5 c.pass.invariant.6 (ap (λ p. p.books.parts) c.pass.view_is ∙ c.requires.all) held.0 held.1 held.2).within
+    (audits c.pass.inside.made c.pass.inside.freed c.len_as-home.result (view c.pass.inside.pass) c.pass.invariant.1.made_are c.pass.invariant.1.freed_are (ap (λ p. p.books.parts) c.pass.view_is ∙ c.requires.all) held.0 held.1 held.2).within
 
 pub returns-clause-out : goal.returns-clause-out
 returns-clause-out g c =
     let held = c.len_as-home.ensures.rule.1 in
-    (audits c.pass.inside.made c.pass.inside.freed c.len_as-home.result (view c.pass.inside.pass) c.pass.invariant.5 c.pass.invariant.6 (ap (λ p. p.books.parts) c.pass.view_is ∙ c.requires.all) held.0 held.1 held.2).rest
+    (audits c.pass.inside.made c.pass.inside.freed c.len_as-home.result (view c.pass.inside.pass) c.pass.invariant.1.made_are c.pass.invariant.1.freed_are (ap (λ p. p.books.parts) c.pass.view_is ∙ c.requires.all) held.0 held.1 held.2).rest
     ∙ ap (λ p. length p.books.out) c.pass.view_is
 
 pub returns-clause-home : goal.returns-clause-home
@@ -28,4 +28,4 @@ returns-clause-home g c =
 pub returns-clause-balance : goal.returns-clause-balance
 returns-clause-balance g c =
     let held = c.len_as-home.ensures.rule.1 in
-    (audits c.pass.inside.made c.pass.inside.freed c.len_as-home.result (view c.pass.inside.pass) c.pass.invariant.5 c.pass.invariant.6 (ap (λ p. p.books.parts) c.pass.view_is ∙ c.requires.all) held.0 held.1 held.2).balance
+    (audits c.pass.inside.made c.pass.inside.freed c.len_as-home.result (view c.pass.inside.pass) c.pass.invariant.1.made_are c.pass.invariant.1.freed_are (ap (λ p. p.books.parts) c.pass.view_is ∙ c.requires.all) held.0 held.1 held.2).balance

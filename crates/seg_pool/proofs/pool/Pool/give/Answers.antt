@@ -7,6 +7,7 @@ use Rattle.seg_pool.specs.declared.books.PassBooks.{PassBooks}
 use Rattle.seg_pool.specs.Steps.{freeing}
 use Rattle.seg_pool.specs.Words.{Freed, Gives, ToHome}
 use Rattle.seg_pool.proofs.MomentLemmas.{one_more_freed}
+use Rattle.seg_pool.proofs.RentLemmas.{gives_one}
 use Rattle.seg_pool.proofs.StepLemmas.{looks, returns}
 use Rattle.seg_pool.proofs.pool.Pool.give.Goals as goal
 
@@ -30,19 +31,21 @@ invariant_of-pass-in-Err g c =
     let mine = subst (λ (n : ℕ). 0 < n) (sym (ap (λ p. times (id_of c.args.block) p.books.out) c.pass.view_is)) c.requires.out in
     let one = one_more_freed v held.0 (id_of c.args.block) held.2 mine in
     let is : view c.free.new.pass ≡ freeing c.id-id.result v = c.free.ensures.freed ∙ ap (λ (h : PassBooks). freeing c.id-id.result h) same in
-    let i = c.pass.invariant in
+    let i = c.pass.invariant.1 in
     let more = length_push v.freed c.id-id.result in (
       c.free.ensures.pass.1,
-      i.1,
-      i.2 ∙ sym (ap (λ (h : PassBooks). h.parts) is),
-      i.3 ∙ sym (ap (λ (h : PassBooks). h.next) is),
-      i.4 ∙ sym (ap (λ (h : PassBooks). h.limit) is),
-      i.5 ∙ sym (ap (λ (h : PassBooks). length h.made) is),
-      omega (arith, i.6, more, ap (λ (h : PassBooks). length h.freed) is),
-      i.7,
-      omega (arith, i.6, one),
-      i.9,
-      i.10,
+      record {
+        some_part = i.some_part;
+        parts_are = i.parts_are ∙ sym (ap (λ (h : PassBooks). h.parts) is);
+        next_is = i.next_is ∙ sym (ap (λ (h : PassBooks). h.next) is);
+        limit_is = i.limit_is ∙ sym (ap (λ (h : PassBooks). h.limit) is);
+        made_are = i.made_are ∙ sym (ap (λ (h : PassBooks). length h.made) is);
+        freed_are = omega (arith, i.freed_are, more, ap (λ (h : PassBooks). length h.freed) is);
+        few_parts = i.few_parts;
+        few_made = i.few_made;
+        few_freed = omega (arith, i.freed_are, one);
+        rights = i.rights;
+      },
     )
 
 pub returns-in-Ok-clause-given : goal.returns-in-Ok-clause-given
@@ -58,3 +61,9 @@ returns-in-Err-clause-given g c =
     let full = held.1 ∙ ap (λ p. p.keep) c.self.view_is ∙ sym c.requires.pool.kept ∙ sym (ap (λ p. p.books.keep) c.pass.view_is) in
     let is = c.free.ensures.freed ∙ ap (λ (h : PassBooks). freeing c.id-id.result h) told.1 ∙ ap (λ (id : ℕ). freeing id v) c.id-id.ensures in
     subst (λ p. Gives p.books (id_of c.args.block) c.free.new.pass.me.0.client) c.pass.view_is (Freed held.0 full held.2 is)
+
+pub returns-in-Ok-clause-out : goal.returns-in-Ok-clause-out
+returns-in-Ok-clause-out g c = gives_one c.args.pass.now.books c.push_as.new.pass.me.0.client (id_of c.args.block) c.requires.out (returns-in-Ok-clause-given g c)
+
+pub returns-in-Err-clause-out : goal.returns-in-Err-clause-out
+returns-in-Err-clause-out g c = gives_one c.args.pass.now.books c.free.new.pass.me.0.client (id_of c.args.block) c.requires.out (returns-in-Err-clause-given g c)
