@@ -194,19 +194,26 @@ fn a_new_pass_rents_what_is_at_home_and_else_makes_the_last_ids(
     Ok(())
 }
 
+// How often a new pass can be split off the one before, at most a hundred times.
+fn splits_in_a_row(pool: &Pool, mut pass: PoolPass) -> u32
+    requires { IsOf pool.now pass }
+{
+    let mut splits: u32 = 0;
+    for _ in 0..100 {
+        let Ok(next) = pool.split(&mut pass) else {
+            break;
+        };
+        pass = next;
+        splits = splits.saturating_add(1);
+    }
+    splits
+}
+
 #[test]
 fn a_pass_is_split_until_it_has_one_part(rt: HostRuntime) -> Result<(), Fail> {
     let (pool, mut pass) = Pool::make(rt.alloc(), 1, 1)?;
-    let mut last = pool.split(&mut pass)?;
-    let mut splits = 0;
-    for _ in 0..100 {
-        let Ok(next) = pool.split(&mut last) else {
-            break;
-        };
-        last = next;
-        splits += 1;
-    }
-    assert_eq!(rt; splits, 40);
+    let other = pool.split(&mut pass)?;
+    assert_eq!(rt; splits_in_a_row(&pool, other), 40);
     Ok(())
 }
 
