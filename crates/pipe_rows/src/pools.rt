@@ -1,6 +1,6 @@
 //! A pool of segments, rented and given back by one thread and by four.
 
-ghost use Rattle.std.specs.Prelude.{◌≡◌, [], length, IfSome};
+ghost use Rattle.std.specs.Prelude.{[]};
 ghost use Rattle.std.specs.Thread.{IsSync};
 ghost use Rattle.seg_pool.specs.Words.{Adds, IsOf};
 
@@ -64,97 +64,26 @@ fn books_of_a_run<R: Wait>(
 #[derive(Drop)]
 struct Run(usize, u32, usize, Books);
 
+fn books(made: u64, home: u64, out: u64, freed: u64) -> Books {
+    Books {
+        made,
+        home,
+        out,
+        freed,
+    }
+}
+
 #[test]
 fn books_tell_what_was_made_is_at_home_out_and_freed(rt: HostRuntime) -> Result<(), Fail> {
     let runs = [
-        Run(
-            1,
-            0,
-            0,
-            Books {
-                made: 0,
-                home: 0,
-                out: 0,
-                freed: 0,
-            },
-        ),
-        Run(
-            1,
-            1,
-            0,
-            Books {
-                made: 2,
-                home: 1,
-                out: 0,
-                freed: 1,
-            },
-        ),
-        Run(
-            2,
-            1,
-            0,
-            Books {
-                made: 2,
-                home: 2,
-                out: 0,
-                freed: 0,
-            },
-        ),
-        Run(
-            2,
-            2,
-            0,
-            Books {
-                made: 2,
-                home: 2,
-                out: 0,
-                freed: 0,
-            },
-        ),
-        Run(
-            2,
-            1,
-            2,
-            Books {
-                made: 2,
-                home: 0,
-                out: 2,
-                freed: 0,
-            },
-        ),
-        Run(
-            1,
-            2,
-            0,
-            Books {
-                made: 3,
-                home: 1,
-                out: 0,
-                freed: 2,
-            },
-        ),
-        Run(
-            8,
-            0,
-            4,
-            Books {
-                made: 4,
-                home: 0,
-                out: 4,
-                freed: 0,
-            },
-        ),
-        Run(
-            8,
-            1,
-            4,
-            Books {
-                made: 4,
-                home: 0,
-                out: 4,
-                freed: 0,
-            },
-        ),
+        Run(1, 0, 0, books(0, 0, 0, 0)),
+        Run(1, 1, 0, books(2, 1, 0, 1)),
+        Run(2, 1, 0, books(2, 2, 0, 0)),
+        Run(2, 2, 0, books(2, 2, 0, 0)),
+        Run(2, 1, 2, books(2, 0, 2, 0)),
+        Run(1, 2, 0, books(3, 1, 0, 2)),
+        Run(8, 0, 4, books(4, 0, 4, 0)),
+        Run(8, 1, 4, books(4, 0, 4, 0)),
     ];
     for Run(keep, times, lost, books) in &runs {
         assert_eq!(rt;
@@ -181,16 +110,7 @@ fn a_new_pass_rents_what_is_at_home_and_else_makes_the_last_ids(
     let again = pool.rent(&rt, alloc, &mut other)?;
     assert_eq!(rt; again.id(), 0);
     pool.merge(&mut pass, other);
-    let books = pool.audit(&rt, pass);
-    assert_eq!(rt;
-        books,
-        Books {
-            made: 2,
-            home: 0,
-            out: 2,
-            freed: 0
-        }
-    );
+    assert_eq!(rt; pool.audit(&rt, pass), books(2, 0, 2, 0));
     Ok(())
 }
 
