@@ -1,11 +1,9 @@
-//! What the pipes and what they stand on answer on known runs: segments, a pool of them, turns, a control and the pipe over one buffer, the pipe of
-//! two threads, and that of one.
+//! What the pipes and what they stand on answer on known runs: turns, a control and the pipe over one buffer, the pipe of two
+//! threads, and that of one.
 #![tactic(auto)]
 
 #[cfg(test)]
 mod at_least;
-#[cfg(test)]
-mod chains;
 #[cfg(test)]
 mod histories;
 #[cfg(test)]
@@ -15,12 +13,7 @@ mod plain;
 #[cfg(test)]
 mod player;
 #[cfg(test)]
-mod pools;
-#[cfg(test)]
 mod replies;
-#[cfg(test)]
-mod segments;
-mod shared_segments;
 #[cfg(test)]
 mod shared;
 #[cfg(test)]

@@ -10,4 +10,7 @@ pub mod GoneLemmas
 pub mod FreeLemmas
 pub mod LyingLemmas
 pub mod WritingLemmas
+pub mod TakingLemmas
+pub mod HeldLemmas
+pub mod BlockLemmas
 pub mod RunLemmas

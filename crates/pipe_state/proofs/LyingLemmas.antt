@@ -111,7 +111,7 @@ cut_front n (r ∷ xs) bs within full = elim (cases_lt n (length r.bytes)) [
 lent_len : (h : List Call) → len (lent_runs h) ≡ length (total h) - consumed h
 lent_len h = ap length (runs_held h) ∙ length-drop (consumed h) (total h)
 
-cut_len : (n : ℕ) (rs : List Run) → len (drop_bytes n rs) ≡ len rs - n
+pub cut_len : (n : ℕ) (rs : List Run) → len (drop_bytes n rs) ≡ len rs - n
 cut_len n [] = omega arith
 cut_len n (r ∷ rs) =
     let both : length (bytes_of (r ∷ rs)) ≡ length r.bytes + len rs = length-append r.bytes (bytes_of rs) in
@@ -148,7 +148,7 @@ joined_full : (rs : List Run) → AreFull rs → AreFull (joined rs)
 joined_full [] full = tt
 joined_full (r ∷ rs) full = onto_full r (joined rs) full.0 (joined_full rs full.1)
 
-both_full : (xs ys : List Run) → AreFull xs → AreFull ys → AreFull (xs ++ ys)
+pub both_full : (xs ys : List Run) → AreFull xs → AreFull ys → AreFull (xs ++ ys)
 both_full [] ys full full' = full'
 both_full (x ∷ xs) ys full full' = (full.0, both_full xs ys full.1 full')
 

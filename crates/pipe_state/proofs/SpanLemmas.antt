@@ -1,11 +1,11 @@
 -- The spans of a chain.
 use Rattle.std.proofs.Common.{◌≡◌, ◌≤◌, ◌-◌, ℕ, zero, suc, List, [], ◌∷◌, length, take, drop, refl, ap, sym, ◌∙◌, subst, Some}
 use Rattle.std.specs.Prelude.{slice_index_or, map}
-use Rattle.std.proofs.lemmas.List.{length-drop}
+use Rattle.std.proofs.lemmas.List.{length-drop, length-map}
 use Rattle.std.proofs.Math.Seq.{take-length}
 use Rattle.seg_block.specs.Words.{seen}
 use Rattle.seg_block.specs.declared.front.SegFront.{SegFront}
-use Rattle.pipe_state.specs.Fetched.{all_fetched}
+use Rattle.pipe_state.specs.Fetched.{Fetched, all_fetched}
 use Rattle.pipe_state.specs.Chains.{first_len, front_at, spans_of}
 use Rattle.pipe_state.specs.declared.arrival.Link.{Link}
 
@@ -30,3 +30,7 @@ within_first (link ∷ links) f skip e within = let same : link.front ≡ f = se
 pub rest_of_span : (xs ys : List ℕ) (skip : ℕ) → xs ≡ ys → take (length xs - skip) (drop skip xs) ≡ drop skip ys
 rest_of_span xs ys skip e = let n : length (drop skip xs) ≡ length xs - skip = length-drop skip xs in
     ap (λ k. take k (drop skip xs)) (sym n) ∙ take-length (drop skip xs) ∙ ap (drop skip) e
+
+pub spans_len : (skip : ℕ) (fetched : List Fetched) → length (spans_of skip fetched) ≡ length fetched
+spans_len skip [] = refl
+spans_len skip (s ∷ fetched) = ap suc (length-map fetched (λ t. t.bytes))

@@ -15,14 +15,14 @@ use Rattle.pipe_state.specs.Released.{BlockName}
 use Rattle.pipe_state.specs.Sides.{FillingState, Unfinished, WriterHas, IsUnsent, unfinished_of}
 use Rattle.pipe_state.specs.Sending.{committed_in}
 use Rattle.pipe_state.specs.Segments.{AreInOrder, SegmentsState, SendsOnly, sent_in}
-use Rattle.pipe_state.specs.Lying.{HaveOwnIds, runs_of}
+use Rattle.pipe_state.specs.Lying.{AreFull, HaveOwnIds, runs_of}
 use Rattle.pipe_state.specs.Current.{HasDraft, IsAdvanced, IsCommitted, drafts_in, free_in, list_of, with_advanced}
 use Rattle.pipe_state.specs.CurrentLending.{with_room}
 use Rattle.pipe_state.specs.Writing.{IsSized, IsWriting}
 use Rattle.pipe_state.specs.declared.filling.Filling.{Filling}
 use Rattle.pipe_state.specs.declared.current.Current.{Current}
 use Rattle.pipe_state.proofs.ListLemmas.{all_before, all_behind, first_apart}
-use Rattle.pipe_state.proofs.LyingLemmas.{joined_front}
+use Rattle.pipe_state.proofs.LyingLemmas.{both_full, joined_front}
 use Rattle.pipe_state.proofs.RunLemmas.{live_apart, sends_run}
 
 -- ---- a draft as a run
@@ -60,7 +60,7 @@ next_runs runs runs' left left' f apart is =
     ap (λ r. joined (r ++ drafts_in left')) is ∙ joined_front (runs ++ run_in f.label.id f.draft) (drafts_in left')
     ∙ ap joined (append_assoc runs (run_in f.label.id f.draft) (drafts_in left')) ∙ ap (λ l. joined (runs ++ drafts_in l)) (sym apart)
 
-last_all : (P : FillingState → Type 0) (fs : List FillingState) (f : FillingState) → AllByRecursion P (fs ++ f ∷ []) → P f
+pub last_all : (P : FillingState → Type 0) (fs : List FillingState) (f : FillingState) → AllByRecursion P (fs ++ f ∷ []) → P f
 last_all P [] f all = all.0
 last_all P (g ∷ fs) f all = last_all P fs f all.1
 
@@ -221,3 +221,12 @@ advances_writing left (Current.Untaken v) (Current.Untaken w) drafted count size
     })
 advances_writing left (Current.Filling f) (Current.Untaken w) drafted count size n has same within is = absurd same
 advances_writing left (Current.Untaken v) (Current.Filling g) drafted count size n has same within is = absurd same
+
+-- ---- no run of a draft is empty
+run_full : (segment : ℕ) (bytes : List ℕ) → AreFull (run_in segment bytes)
+run_full segment [] = tt
+run_full segment (b ∷ bytes) = (omega arith, tt)
+
+pub drafts_full : (fs : List FillingState) → AreFull (drafts_in fs)
+drafts_full [] = tt
+drafts_full (f ∷ fs) = both_full (run_in f.label.id f.draft) (drafts_in fs) (run_full f.label.id f.draft) (drafts_full fs)

@@ -10,3 +10,4 @@ pub mod CurrentLending
 pub mod Writing
 pub mod WritingLending
 pub mod Lying
+pub mod Held

@@ -6,6 +6,7 @@ use Rattle.seg_block.specs.Numbered.{weigh}
 use Rattle.seg_block.specs.declared.block.Block.{Block}
 use Rattle.pipe_state.specs.Fetched.{Fetched, AllFit, arrive}
 use Rattle.pipe_state.specs.Released.{BlockName, block_in, blocks_in, bytes_in, first_goes, names_of}
+use Rattle.pipe_state.specs.Sending.{committed_in}
 use Rattle.pipe_state.specs.Sides.{FillingState, ReaderHas, Unfinished, WriterHas, IsUnsent, going_of, unfinished_of, unsent_of}
 use Rattle.pipe_state.specs.declared.arrival.Arrival.{Arrival}
 
@@ -85,6 +86,14 @@ with_one f writer = record writer { segments = unfinished_of f ∷ [] }
 abbrev pub with_next : FillingState → ℕ → WriterHas → WriterHas
 with_next f hint writer = record { segments = writer.segments ++ unfinished_of f ∷ []; hint = max writer.hint hint }
 
+-- each block has so many bytes
+abbrev pub AreSized : ℕ → List BlockName → Type 0
+AreSized size blocks = AllByRecursion (λ (b : BlockName). b.size ≡ size) blocks
+
+-- once the draft of the first unfinished segment is committed, and that is finished
+abbrev pub with_finished : FillingState → SegmentsState → SegmentsState
+with_finished f s = record s { live = sent_in f.sent (committed_in f true) s.live; writer = without_first s.writer }
+
 -- The first block at home is this segment now, of which nothing was used.
 pub record Starts (home : List BlockName) (f : FillingState) (left : List BlockName) : Type 0 where
   pub block : home ≡ block_in f.label ∷ left
@@ -105,3 +114,7 @@ pub record Releases (n : ℕ) (before after : SegmentsState) : Type 0 where
 -- Nothing else changed than what the reader gets, and what the writer has.
 abbrev pub SendsOnly : SegmentsState → SegmentsState → Type 0
 SendsOnly before after = after ≡ record before { live = after.live; writer = after.writer }
+
+-- Nothing else changed than what is at home, what the reader gets, and what the writer has.
+abbrev pub EndsOnly : SegmentsState → SegmentsState → Type 0
+EndsOnly before after = after ≡ record before { home = after.home; live = after.live; writer = after.writer }

@@ -1,9 +1,12 @@
 -- What of a pipe's segments lies with the writer.
-use Rattle.std.specs.Prelude.{◌≡◌, ◌≤◌, ◌<◌, ◌+◌, ◌*◌, ◌^◌, ℕ, List, ◌++◌, length, drop, map}
+use Rattle.std.specs.Prelude.{◌≡◌, ◌≤◌, ◌<◌, ◌+◌, ◌*◌, ◌^◌, ◌⊎◌, ℕ, List, [], ◌∷◌, ◌++◌, length, drop, map, max}
 use Rattle.std.specs.List.{AllByRecursion}
-use Rattle.circular_buffer.specs.Buffer.{Buffer}
+use Rattle.circular_buffer.specs.Buffer.{Buffer, buffer}
 use Rattle.pipe_core.specs.History.{Run, bytes_of}
 use Rattle.pipe_state.specs.Sides.{FillingState, WriterHas, IsUnsent, unfinished_of}
+use Rattle.pipe_state.specs.Lying.{runs_of}
+use Rattle.pipe_state.specs.Released.{BlockName}
+use Rattle.pipe_state.specs.Segments.{SegmentsState, with_finished, without_first}
 use Rattle.pipe_state.specs.Current.{HasDraft, IsSound, drafts_in, list_of}
 use Rattle.pipe_state.specs.declared.filling.Filling.{Filling}
 use Rattle.pipe_state.specs.declared.current.Current.{Current}
@@ -36,3 +39,20 @@ pub record IsWriting (left : Buffer Filling) (current : Current) (drafted count 
   pub room : left.capacity ≡ count
   pub few : length (left.items ++ list_of current) ≤ count
   pub small : count * size ≤ 2 ^ 62
+
+-- A segment that the writer filled was left with its draft, or finished where it had none.
+abbrev pub SetsAside : FillingState → Buffer Filling → SegmentsState → WriterHas → Buffer Filling → SegmentsState → WriterHas → Type 0
+SetsAside f left segments has left' segments' has' =
+    (HasDraft f × (left' ≡ buffer (left.items ++ f ∷ []) left.capacity) × (segments' ≡ segments) × (has' ≡ has))
+    ⊎ ((f.draft ≡ []) × (left' ≡ left) × (segments' ≡ with_finished f segments) × (has' ≡ without_first has))
+
+-- The writer fills another segment, in which so many bytes are free. What was committed stays where it lies.
+pub record TakesNext (hint n : ℕ) (w : WritingState) (s : SegmentsState) (w' : WritingState) (s' : SegmentsState) : Type 0 where
+  pub free_len : n ≡ length w'.free
+  pub enough : hint ≤ n
+  pub writing : w' ≡ record w { free = w'.free; has = w'.has }
+  pub hint_is : w'.has.hint ≡ max w.has.hint hint
+  pub first : BlockName
+  pub home : s.home ≡ first ∷ s'.home
+  pub runs : runs_of s'.live ≡ runs_of s.live
+  pub segments : s' ≡ record s { home = s'.home; live = s'.live; writer = s'.writer }

@@ -4,11 +4,15 @@ ghost use Rattle.std.specs.Prelude.{◌≡◌, ◌≤◌, ◌+◌, ◌-◌, ◌�
 ghost use Rattle.std.specs.List.{filter};
 ghost use Rattle.pipe_core.specs.History.{Call, Run, Commit, Read, Advance, reader_end, bytes_of};
 ghost use Rattle.pipe_core.specs.Lends.{drop_bytes, joined};
+ghost use Rattle.seg_block.specs.Numbered.{AreNumbered};
+ghost use Rattle.seg_block.specs.declared.block.Block.{Block};
 ghost use Rattle.pipe_state.specs.Fetched.{Fetched};
-ghost use Rattle.pipe_state.specs.Released.{BlockName};
+ghost use Rattle.pipe_state.specs.Released.{BlockName, names_of};
 ghost use Rattle.pipe_state.specs.Sides.{Unfinished};
-ghost use Rattle.pipe_state.specs.Segments.{AreInOrder, sent_in};
+ghost use Rattle.pipe_state.specs.Segments.{AreInOrder, AreSized, sent_in};
 ghost use Rattle.pipe_state.specs.Lying.{Lies, AreFull, HaveOwnIds, extended, runs_of};
+
+use seg_block::ids_differ;
 
 /// What lies in the segments is what the history lends, whatever call comes next.
 pub fn runs_lie_with_the_segments()
@@ -31,3 +35,11 @@ pub fn spans_are_the_runs()
     ensures { (first : Run) (live : List Run) (skip : ℕ) → skip ≤ length first.bytes → AreFull (first ∷ live) →
         filter (λ bytes. nat_lt 0 (length bytes)) (drop skip first.bytes ∷ map (λ r. r.bytes) live) ≡ map (λ r. r.bytes) (drop_bytes skip (first ∷ live)) }
 {}
+
+/// Blocks with numbers in order, of one size, are such that a pipe may be made of.
+pub fn numbered_blocks_fit()
+    ensures own { (first size : ℕ) (blocks : List Block) → AreNumbered first size blocks → HaveOwnIds (names_of blocks) }
+    ensures sized { (first size : ℕ) (blocks : List Block) → AreNumbered first size blocks → AreSized size (names_of blocks) }
+{
+    ids_differ();
+}

@@ -13,14 +13,18 @@ mod release;
 mod rings;
 mod segments;
 mod sides;
+mod state;
 mod writing;
 
 pub use arrival::{Arrival, Link};
 pub use chain::Chain;
 pub use filling::Filling;
 pub use inbox::Inbox;
-pub use laws::{a_commit_joins_the_runs, runs_lie_with_the_segments, spans_are_the_runs};
+pub use laws::{
+    a_commit_joins_the_runs, numbered_blocks_fit, runs_lie_with_the_segments, spans_are_the_runs,
+};
 pub use reading::Reading;
 pub use segments::Segments;
 pub use sides::{ReaderSide, WriterSide};
+pub use state::PipeState;
 pub use writing::Writing;

@@ -1,6 +1,6 @@
 //! How segments go home.
 
-ghost use Rattle.std.specs.Prelude.{◌≡◌, ◌≤◌, ◌<◌, ◌+◌, ◌^◌, true, false, [], ◌∷◌, ◌++◌, length, take, drop, IsSome, IfSome, IfNone};
+ghost use Rattle.std.specs.Prelude.{◌≡◌, ◌≤◌, ◌<◌, ◌+◌, true, false, [], ◌∷◌, ◌++◌, length, take, drop, IsSome, IfSome, IfNone};
 ghost use Rattle.pipe_state.specs.Fetched.{all_fetched, label_of};
 ghost use Rattle.pipe_state.specs.Chains.{IsLink, first_len};
 ghost use Rattle.pipe_state.specs.Released.{FinishedBefore, block_in, blocks_in, bytes_in, first_goes, left_after, names_of, skip_after};
@@ -15,7 +15,6 @@ impl Chain {
     /// Gives up `n` more bytes. The segments that are finished, and of which all is given up, go home.
     pub fn release(&mut self, n: usize, home: &mut HeapCircularBuffer<Block>)
         requires within { self.old.skip + n ≤ length (bytes_in (all_fetched self.old.links)) }
-        requires small { self.old.skip + n ≤ 2 ^ 62 }
         requires order { FinishedBefore (all_fetched self.old.links) }
         requires room { length home.old.items + length self.old.links ≤ home.old.capacity }
         ensures links { all_fetched self.new.links ≡ left_after (self.old.skip + n) (all_fetched self.old.links) }
@@ -25,7 +24,18 @@ impl Chain {
         ensures home_capacity { home.new.capacity ≡ home.old.capacity }
     {
         let rest = self.send_whole(n, home);
+        let _len = self.first_len();
         self.skip += rest;
+    }
+
+    // How many bytes the first segment has, none where there is none.
+    fn first_len(&self) -> usize
+        ensures { result ≡ first_len (all_fetched self.now.links) }
+    {
+        match self.links.front() {
+            Some(link) => link.front.seen().len(),
+            None => 0,
+        }
     }
 
     // Those that `n` more bytes give up whole go home. How many of these bytes lie in the first that is left.

@@ -18,6 +18,7 @@ use crate::sides::{ReaderSide, WriterSide};
 use circular_buffer::HeapCircularBuffer;
 use ghost_halves::{PrivateHalf, SharedHalf, Update, new_halves, update_halves};
 use seg_block::Block;
+use span_seq::Spans;
 use std::alloc::{AllocError, Global};
 use std::marker::{Brand, Model};
 use std::snapshot::Snapshot;
@@ -29,10 +30,13 @@ pub struct Segments {
     inbox: Inbox,
     reader: SharedHalf<ReaderSide>,
     writer: SharedHalf<WriterSide>,
+    // How many segments the reader has.
+    fetched: usize,
     blocks: Snapshot<Vec<Block>>,
 }
 
 impl Model for Segments {
+    ghost use Rattle.std.specs.Prelude.{◌≡◌, length};
     ghost use Rattle.pipe_state.specs.Fetched.{arrive};
     ghost use Rattle.pipe_state.specs.Released.{names_of};
     ghost use Rattle.pipe_state.specs.Segments.{SegmentsState, IsSegments};
@@ -49,7 +53,7 @@ impl Model for Segments {
       blocks = names_of s.blocks.value.items;
     } };
 
-    ghost invariant = { λ s. IsSegments s.home s.inbox.arrivals s.reader.value s.writer.value (names_of s.blocks.value.items) };
+    ghost invariant = { λ s. IsSegments s.home s.inbox.arrivals s.reader.value s.writer.value (names_of s.blocks.value.items) × (s.fetched ≡ length s.reader.value.segments) };
 }
 
 impl Segments {
@@ -78,6 +82,7 @@ impl Segments {
             inbox,
             reader,
             writer,
+            fetched: 0,
             blocks: made_of,
         };
         Ok((segments, readers, writers))
@@ -93,6 +98,7 @@ impl Segments {
             inbox: _,
             reader: _,
             writer: _,
+            fetched: _,
             blocks: _,
         } = self;
         for _ in 0..home.len() {
@@ -101,6 +107,20 @@ impl Segments {
                 None => unreachable!(),
             }
         }
+    }
+
+    /// How many segments are at home.
+    pub fn home_len(&self) -> usize
+        ensures { result ≡ length self.now.home }
+    {
+        self.home.len()
+    }
+
+    /// How many segments the reader has.
+    pub fn fetched_len(&self) -> usize
+        ensures { result ≡ length self.now.reader.segments }
+    {
+        self.fetched
     }
 
     /// Which segments are finished and which are not, and that each block is in one place. It does nothing at run time.
@@ -199,6 +219,7 @@ impl Segments {
     {
         update_halves::<ReaderSide, Brand>(&mut self.reader, &mut reading.half);
         reading.chain.fetch(&mut self.inbox.arrivals);
+        self.fetched = reading.chain.count();
         note_chain::<Brand>(&reading.chain, &mut self.reader, &mut reading.half);
     }
 
@@ -206,7 +227,6 @@ impl Segments {
     pub fn release(&mut self, n: usize, reading: &mut Reading)
         requires pair { reading.old.half.name ≡ self.old.reader_name }
         requires within { reading.old.chain.skip + n ≤ length (bytes_in (all_fetched reading.old.chain.links)) }
-        requires small { reading.old.chain.skip + n ≤ 2 ^ 62 }
         ensures state { Releases n self.old self.new }
         ensures same { reader_has reading.old.chain ≡ self.old.reader }
         ensures chain { reader_has reading.new.chain ≡ self.new.reader }
@@ -215,6 +235,7 @@ impl Segments {
     {
         update_halves::<ReaderSide, Brand>(&mut self.reader, &mut reading.half);
         reading.chain.release(n, &mut self.home);
+        self.fetched = reading.chain.count();
         note_chain::<Brand>(&reading.chain, &mut self.reader, &mut reading.half);
     }
 }

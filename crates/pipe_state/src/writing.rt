@@ -1,20 +1,23 @@
 //! The writer's part.
 
-ghost use Rattle.std.specs.Prelude.{◌≡◌, ◌≤◌, ◌<◌, ◌+◌, ◌*◌, ◌^◌, ◌++◌, ◌∷◌, [], length, map, take, drop, IfOk};
+ghost use Rattle.std.specs.Prelude.{◌≡◌, ◌≤◌, ◌<◌, ◌+◌, ◌*◌, ◌^◌, ◌++◌, ◌∷◌, [], length, map, take, drop, IfOk, IfSome, IfNone};
 ghost use Rattle.std.specs.List.{AllByRecursion};
 ghost use Rattle.circular_buffer.specs.Buffer.{buffer};
 ghost use Rattle.pipe_core.specs.History.{bytes_of, run_in};
 ghost use Rattle.pipe_core.specs.Lends.{joined};
-ghost use Rattle.pipe_state.specs.Lying.{HaveOwnIds, runs_of};
-ghost use Rattle.pipe_state.specs.Segments.{SendsOnly, writes_none};
+ghost use Rattle.pipe_state.specs.Lying.{AreFull, HaveOwnIds, runs_of};
+ghost use Rattle.pipe_state.specs.Segments.{AreSized, EndsOnly, SendsOnly, writes_none};
+ghost use Rattle.pipe_state.specs.Writing.{SetsAside, TakesNext};
 ghost use Rattle.pipe_state.specs.Sides.{unfinished_of};
 ghost use Rattle.pipe_state.specs.Current.{HasDraft, IsCommitted, drafts_in, list_of};
 
 use crate::current::Current;
 use crate::filling::Filling;
+use crate::rings::put_behind;
 use crate::segments::Segments;
 use crate::sides::WriterSide;
 use circular_buffer::HeapCircularBuffer;
+use core::mem::replace;
 use ghost_halves::PrivateHalf;
 use std::alloc::{AllocError, Global};
 use std::marker::Model;
@@ -72,6 +75,14 @@ impl Writing {
         })
     }
 
+    /// No run of the draft is empty. It does nothing at run time.
+    #[inline]
+    pub fn is_full(&self)
+        ensures { AreFull self.now.draft }
+    {
+        let _ = &self.left;
+    }
+
     /// How many bytes are drafted.
     pub fn draft_len(&self) -> u64
         ensures { result ≡ length (bytes_of self.now.draft) }
@@ -100,6 +111,61 @@ impl Writing {
         self.drafted += n as u64;
     }
 
+    /// Fills another segment, which was at home, for want of room for `hint` bytes in the one that it fills. That one is finished
+    /// where none of its bytes are drafted, and left until the draft is committed otherwise. How many bytes are free then, or
+    /// None where no segment is at home.
+    pub fn take_next(&mut self, hint: usize, segments: &mut Segments) -> Option<usize>
+        requires pair { self.old.name ≡ segments.old.writer_name }
+        requires short { length self.old.free < hint }
+        requires fits { hint ≤ self.old.size }
+        requires sizes { AreSized self.old.size segments.old.blocks }
+        requires count { length segments.old.blocks ≡ self.old.count }
+        ensures taken { IfSome result (λ n. TakesNext hint n self.old segments.old self.new segments.new) }
+        ensures none { IfNone result ((segments.old.home ≡ []) × (segments.new ≡ segments.old) × (self.new ≡ self.old)) }
+    {
+        segments.order();
+        match segments.take(hint, &mut self.half) {
+            Some(next) => {
+                segments.order();
+                let free = next.room();
+                match replace(&mut self.current, Current::Filling(next)) {
+                    Current::Filling(before) => {
+                        set_aside(before, &mut self.left, segments, &mut self.half);
+                        Some(free)
+                    }
+                    Current::Untaken(_) => Some(free),
+                }
+            }
+            None => None,
+        }
+    }
+
+    /// The draft is committed, and all segments are finished. One of which nothing was used goes home.
+    pub fn complete(self, segments: &mut Segments)
+        requires pair { self.name ≡ segments.old.writer_name }
+        requires own { HaveOwnIds segments.old.blocks }
+        ensures runs { runs_of segments.new.live ≡ joined (runs_of segments.old.live ++ self.draft) }
+        ensures segments { EndsOnly segments.old segments.new }
+        ensures none_left { segments.new.writer ≡ record self.has { segments = [] } }
+    {
+        let Writing {
+            mut left,
+            current,
+            drafted: _,
+            count: _,
+            size: _,
+            mut half,
+        } = self;
+        finish_left(&mut left, segments, &mut half);
+        match current {
+            Current::Filling(filling) => end_last(filling, segments, &mut half),
+            Current::Untaken(_) => {
+                segments.order();
+                segments.agree(&mut half);
+            }
+        }
+    }
+
     /// The draft is committed, and the segments that were left are finished.
     pub fn commit(&mut self, segments: &mut Segments)
         requires pair { self.old.name ≡ segments.old.writer_name }
@@ -112,6 +178,48 @@ impl Writing {
         finish_left(&mut self.left, segments, &mut self.half);
         commit_current(&mut self.current, segments, &mut self.half);
         self.drafted = 0;
+    }
+}
+
+// The last segment that is not finished is finished, its draft committed. One of which nothing was used goes home.
+fn end_last(filling: Filling, segments: &mut Segments, half: &mut PrivateHalf<WriterSide>)
+    requires pair { half.old.name ≡ segments.old.writer_name }
+    requires only { half.old.value.segments ≡ unfinished_of filling ∷ [] }
+    requires own { HaveOwnIds segments.old.blocks }
+    ensures runs { runs_of segments.new.live ≡ joined (runs_of segments.old.live ++ run_in filling.label.id filling.draft) }
+    ensures segments { EndsOnly segments.old segments.new }
+    ensures none_left { segments.new.writer ≡ record half.old.value { segments = [] } }
+{
+    segments.order();
+    if filling.draft_len() > 0 {
+        segments.finish(filling, half);
+    } else if filling.is_sent() {
+        segments.finish(filling, half);
+    } else {
+        segments.give_back(filling, half);
+    }
+}
+
+// The segment that the writer filled is finished where nothing in it is drafted, and left otherwise.
+fn set_aside(
+    before: Filling,
+    left: &mut HeapCircularBuffer<Filling>,
+    segments: &mut Segments,
+    half: &mut PrivateHalf<WriterSide>,
+)
+    requires pair { half.old.name ≡ segments.old.writer_name }
+    requires room { length left.old.items < left.old.capacity }
+    requires first { (length before.bytes + length before.draft + length before.spare ≡ before.label.size) → before.draft ≡ [] → half.old.value.segments ≡ unfinished_of before ∷ drop 1 half.old.value.segments }
+    ensures size { length before.bytes + length before.draft + length before.spare ≡ before.label.size }
+    ensures aside { SetsAside before left.old segments.old half.old.value left.new segments.new half.new.value }
+    ensures pair { half.new.name ≡ segments.new.writer_name }
+    ensures name { half.new.name ≡ half.old.name }
+{
+    let _room = before.room();
+    if before.draft_len() > 0 {
+        put_behind(left, before);
+    } else {
+        segments.finish(before, half);
     }
 }
 

@@ -3,24 +3,11 @@
 ghost use Rattle.seg_block.specs.Words.{SameTail, published};
 ghost use Rattle.std.specs.Prelude.{◌≡◌};
 
+use crate::append::append;
 use pipe_state::{Chain, Inbox};
 use seg_block::{Block, SegTail};
 use span_seq::Spans;
 use std::test::Fail;
-
-// Writes the bytes to the free part and adds them to the draft, if they fit.
-fn append(tail: &mut SegTail, bytes: &[u8])
-    ensures tail { SameTail tail.old tail.new }
-    ensures published { published tail.new ≡ published tail.old }
-{
-    let spare = tail.spare_mut();
-    if bytes.len() <= spare.len() {
-        spare[..bytes.len()].copy_from_slice(bytes);
-    }
-    if bytes.len() <= tail.room() {
-        tail.advance(bytes.len());
-    }
-}
 
 #[test]
 fn what_is_committed_is_lent_where_it_lies(rt: HostRuntime) -> Result<(), Fail> {

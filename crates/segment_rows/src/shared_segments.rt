@@ -2,7 +2,8 @@
 
 ghost use Rattle.std.specs.Prelude.{◌≡◌, ◌∷◌, [], Some, IfSome, IsSome};
 
-use pipe_state::{Chain, Filling, Reading, Segments};
+use pipe_core::ReadReply;
+use pipe_state::{Chain, Filling, PipeState, Reading, Segments, Writing, numbered_blocks_fit};
 use seg_block::own_blocks;
 use span_seq::Spans;
 use std::test::Fail;
@@ -39,5 +40,24 @@ fn segments_are_filled_lent_and_brought_home(rt: HostRuntime) -> Result<(), Fail
     segments.fetch(&mut reading);
     assert_eq!(rt; reading.chain.count(), 1);
     assert_eq!(rt; reading.chain.span(0), b"abcde".as_slice());
+    Ok(())
+}
+
+#[test]
+fn what_is_committed_is_lent_and_comes_home(rt: HostRuntime) -> Result<(), Fail> {
+    let alloc = rt.alloc();
+    numbered_blocks_fit();
+    let mut blocks = own_blocks(alloc, 2, 64)?;
+    let (mut state, half, writer) = PipeState::make(alloc, &mut blocks, 0, 1)?;
+    let mut writing = Writing::make(alloc, 2, 64, writer)?;
+    let chain = Chain::make(alloc, 2)?;
+    let mut reading = Reading { chain, half };
+    assert_eq!(rt; state.room(1, &mut writing), Some(64));
+    writing.advance(60);
+    assert!(rt; state.commit(&mut writing).is_ok());
+    let (reply, _) = state.read_at_least(0, &mut reading);
+    assert!(rt; matches!(reply, ReadReply::Ready { len: 60, .. }));
+    assert_eq!(rt; reading.chain.count(), 1);
+    assert_eq!(rt; reading.chain.span(0).len(), 60);
     Ok(())
 }

@@ -4,23 +4,11 @@ ghost use Rattle.std.specs.Prelude.{◌≡◌};
 ghost use mathlib.Core.List.{IsPrefix};
 ghost use Rattle.seg_block.specs.Words.{SameTail, SameFront, tail_part, front_part, published, seen};
 
+use crate::append::append;
 use seg_block::{Block, FrontEnd, SegFront, SegTail, TailEnd, block_of, own_blocks};
 use std::sync::Wait;
 use std::test::Fail;
 use std::thread;
-
-// Writes the bytes to the free part and adds them to the draft, if they fit.
-fn append(tail: &mut SegTail, bytes: &[u8])
-    ensures { SameTail tail.old tail.new }
-{
-    let spare = tail.spare_mut();
-    if bytes.len() <= spare.len() {
-        spare[..bytes.len()].copy_from_slice(bytes);
-    }
-    if bytes.len() <= tail.room() {
-        tail.advance(bytes.len());
-    }
-}
 
 // Where both ends are in one hand, a look after a commit shows all that is published.
 fn commit_and_look(tail: &mut SegTail, front: &mut SegFront) -> usize

@@ -1,5 +1,5 @@
 use Rattle.std.proofs.Common.{[]}
-use Rattle.pipe_rows.proofs.pools.rent_by_four.Goals as goal
+use Rattle.segment_rows.proofs.pools.rent_by_four.Goals as goal
 
 pub returns-clause-out : goal.returns-clause-out
 returns-clause-out g c =
