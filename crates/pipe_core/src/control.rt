@@ -237,14 +237,14 @@ impl Control {
     }
 
     // The total.
-    pub(crate) fn committed(&self) -> u64
+    pub fn committed(&self) -> u64
         ensures { result ≡ self.now.committed }
     {
         self.marks.committed
     }
 
     // How many bytes the reader has given up.
-    pub(crate) fn consumed(&self) -> u64
+    pub fn consumed(&self) -> u64
         ensures { result ≡ self.now.consumed }
     {
         self.marks.consumed

@@ -52,8 +52,8 @@ impl Wake {
     ghost use Rattle.std.specs.Prelude.{◌≡◌};
     ghost use Rattle.pipe_core.specs.Wakes.{either_wake};
 
-    // Whom one of two calls wakes.
-    pub(crate) fn or(self, other: Wake) -> Wake
+    /// Whom one of two calls wakes, or both.
+    pub fn or(self, other: Wake) -> Wake
         ensures { result ≡ either_wake self other }
     {
         Wake {

@@ -90,6 +90,14 @@ pub first_stays : (fetched : List Fetched) (segment : Fetched) (n : ℕ) → n �
 first_stays [] segment n within = omega (arith, within)
 first_stays (s ∷ fetched) segment n within = within
 
+pub first_arrives : (fetched : List Fetched) (inbox : List Arrival) (n : ℕ) → n ≤ first_len fetched → AllFit fetched inbox → n ≤ first_len (arrive fetched inbox)
+first_arrives fetched [] n within fit = within
+first_arrives fetched (a ∷ inbox) n within fit = first_arrives (arrived fetched a.front a.mark a.end) inbox n (first_arrival a.front fit.0) fit.1
+  where
+    first_arrival : (front : Option SegFront) → Fits fetched front a.mark a.end → n ≤ first_len (arrived fetched front a.mark a.end)
+    first_arrival (Some f) fits = first_stays fetched (continued (fetched_front f) a.mark a.end) n within
+    first_arrival None fits = let more = first_goes_on fetched a.mark a.end fits in omega arith
+
 pub as_many : (fetched : List Fetched) (m : Mark) (end : Option TailEnd) → length (continue_last fetched m end) ≡ length fetched
 as_many [] m end = refl
 as_many (s ∷ []) m end = refl

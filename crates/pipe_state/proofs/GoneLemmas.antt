@@ -12,11 +12,11 @@ use Rattle.seg_block.specs.declared.tail.TailEnd.{TailEnd}
 use Rattle.pipe_state.specs.Fetched.{Fetched, AllFit, Fits, all_fetched, arrive, arrived, continue_last}
 use Rattle.pipe_state.specs.Released.{BlockName, FinishedBefore, blocks_in, block_in, bytes_in, first_goes, goes_home, left_after, names_of, skip_after}
 use Rattle.pipe_state.specs.Sides.{ReaderHas, Unfinished, WriterHas, going_of, reader_has}
-use Rattle.pipe_state.specs.Chains.{ChainState}
+use Rattle.pipe_state.specs.Chains.{ChainState, first_len}
 use Rattle.pipe_state.specs.Segments.{AreInOrder, IsFinished, IsSegments}
 use Rattle.pipe_state.specs.declared.arrival.Arrival.{Arrival}
 use Rattle.pipe_state.proofs.PlaceLemmas.{weigh-append, live_few}
-use Rattle.pipe_state.proofs.FetchedLemmas.{arrive_no_fewer}
+use Rattle.pipe_state.proofs.FetchedLemmas.{arrive_no_fewer, first_arrives}
 
 -- ---- what goes
 pub record Gone (n : ℕ) (segments : List Fetched) : Type 0 where
@@ -126,7 +126,7 @@ record Front (gone before going live : List Fetched) : Type 0 where
   pub apart : before ≡ gone ++ left
   pub rest : live ≡ left ++ going
 
-going_is : (unfinished : List Unfinished) → AllByRecursion (λ (s : Fetched). s.finished ≡ false) (going_of unfinished)
+pub going_is : (unfinished : List Unfinished) → AllByRecursion (λ (s : Fetched). s.finished ≡ false) (going_of unfinished)
 going_is [] = tt
 going_is (u ∷ unfinished) = elim (cases_Bool u.sent) [
   | inl yes' ↦ rw yes' (refl, tt)
@@ -202,14 +202,16 @@ pub record Leaves (home home' : Buffer Block) (inbox : Buffer Arrival) (reader r
   pub live : arrive reader.segments inbox.items ≡ gone ++ arrive reader'.segments inbox.items
   pub finished : AllByRecursion IsFinished gone
   pub skip : reader.skip + n ≡ length (bytes_in gone) + reader'.skip
+  pub within : reader'.skip ≤ first_len (arrive reader'.segments inbox.items)
   pub stays : first_goes reader'.skip reader'.segments ≡ false
   pub home_is : names_of home'.items ≡ names_of home.items ++ blocks_in gone
 
 pub leaves : (home home' : Buffer Block) (inbox : Buffer Arrival) (reader : ReaderHas) (chain chain' : ChainState) (writer : WriterHas) (blocks : List BlockName) (n : ℕ)
     → reader_has chain ≡ reader → all_fetched chain'.links ≡ left_after (chain.skip + n) (all_fetched chain.links) → chain'.skip ≡ skip_after (chain.skip + n) (all_fetched chain.links)
+    → chain'.skip ≤ first_len (all_fetched chain'.links)
     → names_of home'.items ++ blocks_in (all_fetched chain'.links) ≡ names_of home.items ++ blocks_in (all_fetched chain.links) → home'.capacity ≡ home.capacity
     → IsSegments home inbox reader writer blocks → Leaves home home' inbox reader (reader_has chain') writer blocks n
-leaves home home' inbox reader chain chain' writer blocks n same links skip homes capacity is =
+leaves home home' inbox reader chain chain' writer blocks n same links skip within homes capacity is =
     subst (λ r. Leaves home home' inbox r (reader_has chain') writer blocks n) same (
     let segments : List Fetched = all_fetched chain.links in let left : List Fetched = all_fetched chain'.links in
     let g = gone (chain.skip + n) segments in
@@ -224,6 +226,7 @@ leaves home home' inbox reader chain chain' writer blocks n same links skip home
       live = all.1;
       finished = g.finished;
       skip = omega arith;
+      within = first_arrives left inbox.items chain'.skip within all.0.fit;
       stays = ap (λ k. first_goes k left) skip ∙ ap (first_goes (skip_after (chain.skip + n) segments)) links ∙ g.stays;
       home_is = more;
     })

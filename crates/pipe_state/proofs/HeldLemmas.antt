@@ -1,6 +1,6 @@
 -- What the steps of a pipe make of the segments and of the marks.
 use Rattle.std.proofs.Common.{◌≡◌, ◌≢◌, ◌≤◌, ◌+◌, ◌-◌, ◌^◌, ℕ, Bool, true, false, List, [], ◌∷◌, ◌++◌, length, refl, sym, ap, subst, ◌∙◌, arith, inl, inr, Option, Some, None}
-use Rattle.std.specs.Prelude.{IsNone, IsSome, IfSome, option_map, unwrap_or, ◌||◌}
+use Rattle.std.specs.Prelude.{IsNone, IsSome, IfSome, option_map, unwrap_or, ◌||◌, ◌==◌}
 use Rattle.std.specs.List.{AllByRecursion}
 use Rattle.std.proofs.lemmas.Bool.{cases_Bool}
 use Rattle.std.proofs.lemmas.List.{length-append, length-drop, append_cancel_left, append-nil}
@@ -11,7 +11,7 @@ use Rattle.pipe_core.specs.Answers.{Flushed, Woke}
 use Rattle.pipe_core.specs.Wakes.{either_wake, wake_of}
 use Rattle.pipe_core.specs.declared.reply.FlushReply.{FlushReply}
 use Rattle.pipe_core.specs.declared.reply.Wake.{Wake}
-use Rattle.pipe_core.specs.Lends.{lend, joined}
+use Rattle.pipe_core.specs.Lends.{lend, joined, onto_runs}
 use Rattle.pipe_core.specs.Legal.{IsLegal}
 use Rattle.pipe_core.specs.Progress.{consumed, held, total}
 use Rattle.pipe_core.specs.Reads.{read_is_ready}
@@ -21,13 +21,19 @@ use Rattle.pipe_core.proofs.OrderLemmas.{ordered}
 use Rattle.seg_block.specs.Numbered.{weigh}
 use Rattle.pipe_state.specs.Fetched.{Fetched}
 use Rattle.pipe_state.specs.Released.{BlockName, blocks_in, bytes_in, first_goes}
-use Rattle.pipe_state.specs.Segments.{AreInOrder, IsFinished, Releases, SegmentsState}
-use Rattle.pipe_state.specs.Sides.{ReaderHas, Unfinished}
+use Rattle.pipe_state.specs.Chains.{first_len}
+use Rattle.pipe_state.specs.Segments.{AreFilled, AreInOrder, IsFinished, Releases, SegmentsState}
+use Rattle.pipe_state.specs.Sides.{ReaderHas, Unfinished, WriterHas}
 use Rattle.pipe_state.specs.Lying.{AreFull, HaveOwnIds, Lies, run_of, runs_of}
 use Rattle.pipe_state.specs.Held.{AreAll, HasGivenUp, HeldAnswers, HeldMade, IsHeld, IsKept, HoldsRuns, PipeHeld, Settles, all_fetched_in, held_made}
 use Rattle.pipe_state.specs.declared.reading.Reading.{Reading}
 use Rattle.pipe_state.proofs.LyingLemmas.{advances, commits, cut_len, goes_home, joined_bytes}
 use Rattle.pipe_state.proofs.RunLemmas.{live_apart}
+
+-- how many bytes the first has, none where there is none
+abbrev first_run : List Run → ℕ
+first_run [] = 0
+first_run (r ∷ runs) = length r.bytes
 
 -- ---- bytes of runs
 pub runs_bytes : (segments : List Fetched) → bytes_of (runs_of segments) ≡ bytes_in segments
@@ -68,9 +74,19 @@ read_held control control' s s' retired n is none state stands gone ended =
       history = (Read n ∷ h, record { marks = marks; lies = λ still. reads h n s.reader.skip (runs_of s.live) lies });
       own = is.own;
       lent = subst (λ l. IfSome l (λ m. s.reader.skip + m ≡ length (bytes_in s.live))) (sym marks.lent) (read_lent h n s.reader.skip s.live lies);
+      within = λ attends. is.within (subst IsNone gone attends);
+      filled = λ goes_on. is.filled (subst IsNone ended goes_on);
       kept = kept_none control.gone control'.gone s (record s { reader = record { segments = s.live; skip = s.reader.skip } }) retired none gone is.kept;
       ended = λ completed. is.ended (subst IsSome ended completed);
     })
+
+-- ---- what stays is filled where all was
+filled_after : (hint : ℕ) (gone live : List Fetched) → AreFilled hint (gone ++ live) → AreFilled hint live
+filled_after hint [] live all = all
+filled_after hint (s ∷ gone) live all = filled_after hint gone live all.1
+
+pub released_filled : (n hint : ℕ) (s s' : SegmentsState) → Releases n s s' → AreFilled hint s.live → AreFilled hint s'.live
+released_filled n hint s s' released all = filled_after hint released.gone s'.live (subst (AreFilled hint) released.live all)
 
 -- ---- an advance
 gone_lies : (h : List Call) (gone live : List Fetched) (skip skip' : ℕ) → skip ≡ length (bytes_in gone) + skip' → Lies h skip (runs_of (gone ++ live)) → Lies h skip' (runs_of live)
@@ -118,6 +134,8 @@ advance_held control control' s s' retired c e is may released stands gone ended
       history = (Advance c e ∷ h, advance_stands control control' s s' h c e holds may released (stands h holds.marks));
       own = subst HaveOwnIds (sym (ap (λ (t : SegmentsState). t.blocks) released.kept)) is.own;
       lent = subst (λ l. IfSome l (λ m. s'.reader.skip + m ≡ length (bytes_in s'.reader.segments))) (sym none) tt;
+      within = λ attends. released.within;
+      filled = λ goes_on. subst (λ (w : WriterHas). AreFilled w.hint s'.live) (sym (ap (λ (t : SegmentsState). t.writer) released.kept)) (released_filled c s.writer.hint s s' released (is.filled (subst IsNone ended goes_on)));
       kept = kept_none control.gone control'.gone s s' retired open' gone is.kept;
       ended = λ completed. ap (λ (t : SegmentsState). t.writer.segments) released.kept ∙ is.ended (subst IsSome ended completed);
     }
@@ -150,10 +168,11 @@ pub record Settled (gone : Option ℕ) (s s' : SegmentsState) (retired' : Option
   pub ends : (s'.blocks ≡ s.blocks) × (s'.reader_name ≡ s.reader_name) × (s'.writer_name ≡ s.writer_name)
   pub attended : IsNone gone → s' ≡ s
   pub writer : s'.writer ≡ s.writer
+  pub filled : (hint : ℕ) → AreFilled hint s.live → AreFilled hint s'.live
 
 pub settled : (gone : Option ℕ) (s s1 s2 : SegmentsState) (retired retired' : Option Reading) (n : ℕ) → IsKept gone s retired → SameEnds s s1 → length (bytes_in s1.live) ≡ length (bytes_in s.live) + n
     → Settles n retired s1 retired' s2 → Settled gone s1 s2 retired'
-settled None s s1 s2 None None n kept same len settles = record { kept = tt; ends = (ap (λ (t : SegmentsState). t.blocks) settles, ap (λ (t : SegmentsState). t.reader_name) settles, ap (λ (t : SegmentsState). t.writer_name) settles); attended = λ none. settles; writer = ap (λ (t : SegmentsState). t.writer) settles }
+settled None s s1 s2 None None n kept same len settles = record { kept = tt; ends = (ap (λ (t : SegmentsState). t.blocks) settles, ap (λ (t : SegmentsState). t.reader_name) settles, ap (λ (t : SegmentsState). t.writer_name) settles); attended = λ none. settles; writer = ap (λ (t : SegmentsState). t.writer) settles; filled = λ hint all. subst (λ (t : SegmentsState). AreFilled hint t.live) (sym settles) all }
 settled None s s1 s2 None (Some r') n kept same len settles = absurd settles
 settled None s s1 s2 (Some r) retired' n kept same len settles = absurd kept
 settled (Some code) s s1 s2 None retired' n kept same len settles = absurd kept
@@ -177,6 +196,7 @@ settled (Some code) s s1 s2 (Some r) (Some r') n kept same len settles =
       ends = (blocks, ap (λ (t : SegmentsState). t.reader_name) stay, ap (λ (t : SegmentsState). t.writer_name) stay);
       attended = λ none. absurd (cc (none));
       writer = ap (λ (t : SegmentsState). t.writer) stay;
+      filled = λ hint all. released_filled n hint (all_fetched_in s1) s2 released all;
     }
 
 -- so many bytes were committed
@@ -199,6 +219,39 @@ commit_stands control control' s s1 s2 retired' h draft holds full runs same set
       (subst (Lies (Commit draft ∷ h) s.reader.skip) (sym runs) (commits h draft (runs_of s.live) s.reader.skip still full (holds.lies still))));
 }
 
+-- what was consumed of the first segment lies in it still
+joined_longer : (r : Run) (runs : List Run) → length r.bytes ≤ first_run (joined (r ∷ runs))
+joined_longer r runs = onto_longer (joined runs)
+  where
+    onto_longer : (xs : List Run) → length r.bytes ≤ first_run (onto_runs r xs)
+    onto_longer [] = omega arith
+    onto_longer (x ∷ xs) = elim (cases_Bool (r.segment == x.segment)) [
+      | inl same ↦ rw same (let both = length-append r.bytes x.bytes in omega arith)
+      | inr other ↦ rw other (omega arith)
+    ]
+
+first_is : (live : List Fetched) → first_len live ≡ first_run (runs_of live)
+first_is [] = refl
+first_is (s ∷ live) = refl
+
+first_longer : (live live' : List Fetched) (draft : List Run) → runs_of live' ≡ joined (runs_of live ++ draft) → first_len live ≤ first_len live'
+first_longer [] live' draft runs = omega arith
+first_longer (s ∷ live) live' draft runs =
+    let a = joined_longer (run_of s) (runs_of live ++ draft) in let b = ap first_run runs in let c = first_is live' in omega arith
+
+same_first : (live live' : List Fetched) → runs_of live' ≡ runs_of live → first_len live ≤ first_len live'
+same_first live live' runs = let a = first_is live in let b = first_is live' in let c = ap first_run runs in omega arith
+
+-- what was consumed lies in the first segment, while the reader attends
+within_stays : (gone : Option ℕ) (s s1 s2 : SegmentsState) (retired' : Option Reading) → SameEnds s s1 → Settled gone s1 s2 retired' → first_len s.live ≤ first_len s1.live
+    → (IsNone gone → s.reader.skip ≤ first_len s.live) → IsNone gone → s2.reader.skip ≤ first_len s2.live
+within_stays had_end s s1 s2 retired' same settled longer within attends =
+    let had = within attends in let skip = ap (λ (r : ReaderHas). r.skip) same.reader in
+    subst (λ (t : SegmentsState). t.reader.skip ≤ first_len t.live) (sym (settled.attended attends)) (omega arith)
+
+filled_stays : (gone : Option ℕ) (s1 s2 : SegmentsState) (retired' : Option Reading) → Settled gone s1 s2 retired' → AreFilled s1.writer.hint s1.live → AreFilled s2.writer.hint s2.live
+filled_stays had_end s1 s2 retired' settled all = subst (λ (w : WriterHas). AreFilled w.hint s2.live) (sym settled.writer) (settled.filled s1.writer.hint all)
+
 -- a lend stays while the writer commits, and there is none once the reader has completed
 lent_stays : (gone : Option ℕ) (lent : Option ℕ) (h : List Call) (s s1 s2 : SegmentsState) (retired' : Option Reading) → IsLegal h → gone ≡ reader_end h → lent ≡ option_map length (lend h)
     → SameEnds s s1 → Settled gone s1 s2 retired' → IfSome lent (λ m. s.reader.skip + m ≡ length (bytes_in s.reader.segments)) → IfSome lent (λ m. s2.reader.skip + m ≡ length (bytes_in s2.reader.segments))
@@ -213,16 +266,19 @@ lent_stays (Some code) lent h s s1 s2 retired' legal gone is same settled had =
 
 pub commit_held : (control control' : Marks) (s s1 s2 : SegmentsState) (retired retired' : Option Reading) (draft : List Run) → IsHeld (record { control = control; segments = s }) retired → AreFull draft
     → runs_of s1.live ≡ joined (runs_of s.live ++ draft) → SameEnds s s1 → Settled control.gone s1 s2 retired' → ((h : List Call) → StandsFor control h → StandsFor control' (Commit draft ∷ h))
-    → control'.gone ≡ control.gone → control'.lent ≡ control.lent → IsNone control'.ended → IsHeld (record { control = control'; segments = s2 }) retired'
-commit_held control control' s s1 s2 retired retired' draft is full runs same settled stands gone lent going =
+    → control'.gone ≡ control.gone → control'.lent ≡ control.lent → IsNone control.ended → control'.ended ≡ control.ended → (AreFilled s.writer.hint s.live → AreFilled s1.writer.hint s1.live)
+    → IsHeld (record { control = control'; segments = s2 }) retired'
+commit_held control control' s s1 s2 retired retired' draft is full runs same settled stands gone lent going ended filled =
     let h = is.history.0 in let holds = is.history.1 in
     record {
       history = (Commit draft ∷ h, commit_stands control control' s s1 s2 retired' h draft holds full runs same settled (stands h holds.marks));
       own = subst HaveOwnIds (sym (settled.ends.0 ∙ same.blocks)) is.own;
       lent = subst (λ l. IfSome l (λ m. s2.reader.skip + m ≡ length (bytes_in s2.reader.segments))) (sym lent)
           (lent_stays control.gone control.lent h s s1 s2 retired' holds.marks.legal holds.marks.gone holds.marks.lent same settled is.lent);
+      within = λ attends. within_stays control.gone s s1 s2 retired' same settled (first_longer s.live s1.live draft runs) is.within (subst IsNone gone attends);
+      filled = λ goes_on. filled_stays control.gone s1 s2 retired' settled (filled (is.filled going));
       kept = subst (λ g. IsKept g s2 retired') (sym gone) settled.kept;
-      ended = λ some. absurd (cc (some, going));
+      ended = λ some. absurd (cc (some, going, ended));
     }
 
 -- ---- another segment for the writer
@@ -240,13 +296,16 @@ room_stands control s s1 s2 retired' h runs same settled holds = record {
 }
 
 pub room_held : (control : Marks) (s s1 s2 : SegmentsState) (retired retired' : Option Reading) → IsHeld (record { control = control; segments = s }) retired → runs_of s1.live ≡ runs_of s.live
-    → SameEnds s s1 → Settled control.gone s1 s2 retired' → IsNone control.ended → IsHeld (record { control = control; segments = s2 }) retired'
-room_held control s s1 s2 retired retired' is runs same settled going =
+    → SameEnds s s1 → Settled control.gone s1 s2 retired' → IsNone control.ended → (AreFilled s.writer.hint s.live → AreFilled s1.writer.hint s1.live)
+    → IsHeld (record { control = control; segments = s2 }) retired'
+room_held control s s1 s2 retired retired' is runs same settled going filled =
     let h = is.history.0 in let holds = is.history.1 in
     record {
       history = (h, room_stands control s s1 s2 retired' h runs same settled holds);
       own = subst HaveOwnIds (sym (settled.ends.0 ∙ same.blocks)) is.own;
       lent = lent_stays control.gone control.lent h s s1 s2 retired' holds.marks.legal holds.marks.gone holds.marks.lent same settled is.lent;
+      within = within_stays control.gone s s1 s2 retired' same settled (same_first s.live s1.live runs) is.within;
+      filled = λ goes_on. filled_stays control.gone s1 s2 retired' settled (filled (is.filled going));
       kept = settled.kept;
       ended = λ some. absurd (cc (some, going));
     }
@@ -268,14 +327,16 @@ end_stands control control' s s1 s2 retired' h code runs same settled holds mark
 
 pub end_held : (control control' : Marks) (s s1 s2 : SegmentsState) (retired retired' : Option Reading) (code : ℕ) → IsHeld (record { control = control; segments = s }) retired → runs_of s1.live ≡ runs_of s.live
     → SameEnds s s1 → Settled control.gone s1 s2 retired' → ((h : List Call) → StandsFor control h → StandsFor control' (EndWriter code ∷ h))
-    → control'.gone ≡ control.gone → control'.lent ≡ control.lent → s1.writer.segments ≡ [] → IsHeld (record { control = control'; segments = s2 }) retired'
-end_held control control' s s1 s2 retired retired' code is runs same settled stands gone lent none =
+    → control'.gone ≡ control.gone → control'.lent ≡ control.lent → control'.ended ≡ Some code → s1.writer.segments ≡ [] → IsHeld (record { control = control'; segments = s2 }) retired'
+end_held control control' s s1 s2 retired retired' code is runs same settled stands gone lent ended none =
     let h = is.history.0 in let holds = is.history.1 in
     record {
       history = (EndWriter code ∷ h, end_stands control control' s s1 s2 retired' h code runs same settled holds (stands h holds.marks));
       own = subst HaveOwnIds (sym (settled.ends.0 ∙ same.blocks)) is.own;
       lent = subst (λ l. IfSome l (λ m. s2.reader.skip + m ≡ length (bytes_in s2.reader.segments))) (sym lent)
           (lent_stays control.gone control.lent h s s1 s2 retired' holds.marks.legal holds.marks.gone holds.marks.lent same settled is.lent);
+      within = λ attends. within_stays control.gone s s1 s2 retired' same settled (same_first s.live s1.live runs) is.within (subst IsNone gone attends);
+      filled = λ goes_on. absurd (cc (goes_on, ended));
       kept = subst (λ g. IsKept g s2 retired') (sym gone) settled.kept;
       ended = λ some. ap (λ w. w.segments) settled.writer ∙ none;
     }
@@ -353,14 +414,16 @@ pub reader_ended : (control' : Marks) (s' : SegmentsState) (h : List Call) (code
 reader_ended control' s' h code marks = record { marks = marks; lies = λ still. absurd (cc (still)) }
 
 pub reader_end_held : (control control' : Marks) (s s' : SegmentsState) (retired : Option Reading) (reading' : Reading) (code : ℕ) → IsHeld (record { control = control; segments = s }) retired
-    → HasGivenUp s' reading' → s'.blocks ≡ s.blocks → s'.writer ≡ s.writer → ((h : List Call) → StandsFor control h → StandsFor control' (EndReader code ∷ h))
+    → HasGivenUp s' reading' → s'.blocks ≡ s.blocks → s'.writer ≡ s.writer → (AreFilled s.writer.hint s.live → AreFilled s.writer.hint s'.live) → ((h : List Call) → StandsFor control h → StandsFor control' (EndReader code ∷ h))
     → control'.gone ≡ Some code → control'.lent ≡ None → control'.ended ≡ control.ended → IsHeld (record { control = control'; segments = s' }) (Some reading')
-reader_end_held control control' s s' retired reading' code is up blocks writer stands gone lent ended =
+reader_end_held control control' s s' retired reading' code is up blocks writer filled stands gone lent ended =
     let h = is.history.0 in let holds = is.history.1 in
     record {
       history = (EndReader code ∷ h, reader_ended control' s' h code (stands h holds.marks));
       own = subst HaveOwnIds (sym blocks) is.own;
       lent = subst (λ l. IfSome l (λ m. s'.reader.skip + m ≡ length (bytes_in s'.reader.segments))) (sym lent) tt;
+      within = λ attends. absurd (cc (attends, gone));
+      filled = λ goes_on. subst (λ (w : WriterHas). AreFilled w.hint s'.live) (sym writer) (filled (is.filled (subst IsNone ended goes_on)));
       kept = subst (λ g. IsKept g s' (Some reading')) (sym gone) up;
       ended = λ some. ap (λ w. w.segments) writer ∙ is.ended (subst IsSome ended some);
     }
@@ -375,7 +438,7 @@ all_gone home live blocks skip order consumed stays = finished_none live (subst 
         absurd (let finished = all.0 in let both : length (bytes_in (s ∷ live)) ≡ length s.bytes + length (bytes_in live) = length-append s.bytes (bytes_in live) in
         let low : length s.bytes ≤ skip = omega arith in grind (arith, stays, finished, low))
 
-kept_closed : (gone : Option ℕ) (s : SegmentsState) (retired : Option Reading) → IsSome gone → IsKept gone s retired → (s.reader.skip ≡ length (bytes_in s.live)) × (first_goes s.reader.skip s.live ≡ false)
+pub kept_closed : (gone : Option ℕ) (s : SegmentsState) (retired : Option Reading) → IsSome gone → IsKept gone s retired → (s.reader.skip ≡ length (bytes_in s.live)) × (first_goes s.reader.skip s.live ≡ false)
 kept_closed None s retired some kept = absurd (cc (some))
 kept_closed (Some code) s None some kept = absurd kept
 kept_closed (Some code) s (Some r) some kept = (kept.consumed, ap (first_goes s.reader.skip) (sym kept.all) ∙ kept.home)

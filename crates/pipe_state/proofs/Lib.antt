@@ -14,3 +14,4 @@ pub mod TakingLemmas
 pub mod HeldLemmas
 pub mod BlockLemmas
 pub mod RunLemmas
+pub mod FullLemmas

@@ -1,9 +1,16 @@
 -- The spans of a chain.
-use Rattle.std.proofs.Common.{◌≡◌, ◌≤◌, ◌-◌, ℕ, zero, suc, List, [], ◌∷◌, length, take, drop, refl, ap, sym, ◌∙◌, subst, Some}
+use Rattle.std.proofs.Common.{◌≡◌, ◌≤◌, ◌-◌, ℕ, zero, suc, List, [], ◌∷◌, ◌++◌, length, take, drop, refl, arith, ap, sym, ◌∙◌, subst, Some}
 use Rattle.std.specs.Prelude.{slice_index_or, map}
-use Rattle.std.proofs.lemmas.List.{length-drop, length-map}
+use Rattle.std.specs.List.{concat}
+use Rattle.std.proofs.lemmas.List.{drop-append-le, length-drop, length-map, take_all}
 use Rattle.std.proofs.Math.Seq.{take-length}
+use Rattle.span_seq.specs.Spans.{whole_of}
+use Rattle.span_seq.specs.Spans as spans
+use Rattle.pipe_core.specs.History.{bytes_of}
+use Rattle.pipe_core.specs.Lends.{drop_bytes}
+use Rattle.pipe_core.proofs.RunLemmas.{dropped_bytes}
 use Rattle.seg_block.specs.Words.{seen}
+use Rattle.pipe_state.specs.Lying.{runs_of}
 use Rattle.seg_block.specs.declared.front.SegFront.{SegFront}
 use Rattle.pipe_state.specs.Fetched.{Fetched, all_fetched}
 use Rattle.pipe_state.specs.Chains.{first_len, front_at, spans_of}
@@ -34,3 +41,16 @@ rest_of_span xs ys skip e = let n : length (drop skip xs) ≡ length xs - skip =
 pub spans_len : (skip : ℕ) (fetched : List Fetched) → length (spans_of skip fetched) ≡ length fetched
 spans_len skip [] = refl
 spans_len skip (s ∷ fetched) = ap suc (length-map fetched (λ t. t.bytes))
+
+-- ---- what lies in the spans
+later_bytes : (fetched : List Fetched) → concat (map (λ s. s.bytes) fetched) ≡ bytes_of (runs_of fetched)
+later_bytes [] = refl
+later_bytes (s ∷ fetched) = ap (λ b. s.bytes ++ b) (later_bytes fetched)
+
+pub spans_bytes : (skip : ℕ) (fetched : List Fetched) → skip ≤ first_len fetched → concat (spans_of skip fetched) ≡ bytes_of (drop_bytes skip (runs_of fetched))
+spans_bytes skip [] within = refl
+spans_bytes skip (s ∷ fetched) within =
+    ap (λ b. drop skip s.bytes ++ b) (later_bytes fetched) ∙ sym (drop-append-le skip s.bytes (bytes_of (runs_of fetched)) within) ∙ sym (dropped_bytes skip (runs_of (s ∷ fetched)))
+
+pub all_bytes : (xss : List (List ℕ)) → spans.bytes_of (whole_of xss) ≡ concat xss
+all_bytes xss = take_all (length (concat xss) - 0) (concat xss) (omega arith)

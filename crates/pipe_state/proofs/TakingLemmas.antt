@@ -12,7 +12,7 @@ use Rattle.pipe_state.specs.Fetched.{Fetched}
 use Rattle.pipe_state.specs.Released.{BlockName, block_in}
 use Rattle.pipe_state.specs.Sides.{FillingState, Unfinished, WriterHas, IsUnsent, going_of, unfinished_of, unsent_of}
 use Rattle.pipe_state.specs.Sending.{committed_in}
-use Rattle.pipe_state.specs.Segments.{AreInOrder, AreSized, SegmentsState, Starts, sent_in, with_next, without_first}
+use Rattle.pipe_state.specs.Segments.{AreFilled, AreInOrder, AreSized, IsFilled, SegmentsState, Starts, sent_in, with_next, without_first}
 use Rattle.pipe_state.specs.Lying.{run_of, runs_of}
 use Rattle.pipe_state.specs.Current.{HasDraft, drafts_in, free_in, list_of}
 use Rattle.pipe_state.specs.Writing.{IsLeft, IsSized, IsWriting, SetsAside}
@@ -20,13 +20,13 @@ use Rattle.pipe_state.specs.declared.filling.Filling.{Filling}
 use Rattle.pipe_state.specs.declared.current.Current.{Current}
 use Rattle.pipe_state.proofs.ListLemmas.{all_behind}
 use Rattle.pipe_state.proofs.PlaceLemmas.{counted, sent_is}
-use Rattle.pipe_state.proofs.WritingLemmas.{last_all}
+use Rattle.pipe_state.proofs.WritingLemmas.{last_all, sent_filled}
 
 -- ---- each block has its size
-abbrev wrong : ℕ → BlockName → ℕ
+abbrev pub wrong : ℕ → BlockName → ℕ
 wrong size b = 1 - mark size b.size
 
-none_wrong : (size : ℕ) (blocks : List BlockName) → AreSized size blocks → weigh (wrong size) blocks ≡ 0
+pub none_wrong : (size : ℕ) (blocks : List BlockName) → AreSized size blocks → weigh (wrong size) blocks ≡ 0
 none_wrong size [] all = refl
 none_wrong size (b ∷ blocks) all = let rest = none_wrong size blocks all.1 in let same = all.0 in omega arith
 
@@ -173,9 +173,10 @@ pub record Fills (left' : Buffer Filling) (current : Current) (left : List Filli
   pub writing : IsWriting left' (Current.Filling g) drafted count size has'
   pub draft : drafts_in (left'.items ++ g ∷ []) ≡ drafts_in (left ++ list_of current)
   pub hint_is : has'.hint ≡ max has.hint hint
-  pub enough : hint ≤ length g.spare
+  pub whole : length g.spare ≡ size
   pub home : s.home ≡ block_in g.label ∷ s'.home
   pub runs : runs_of s'.live ≡ runs_of s.live
+  pub filled : AreFilled s.writer.hint s.live → AreFilled s'.writer.hint s'.live
   pub segments : s' ≡ record s { home = s'.home; live = s'.live; writer = s'.writer }
 
 is_new : (left : Buffer Filling) (current : Current) (drafted count size hint : ℕ) (has : WriterHas) (s s1 : SegmentsState) (g : FillingState)
@@ -187,8 +188,19 @@ is_new left current drafted count size hint has s s1 g found = record {
   unsent = found.starts.empty.2;
 }
 
-enough_room : (size hint : ℕ) (g : FillingState) → IsNew size g → length g.bytes + length g.draft + length g.spare ≡ g.label.size → hint ≤ size → hint ≤ length g.spare
-enough_room size hint g new parts fits = let b = ap length new.bytes in let d = ap length new.draft in let l = new.label in omega arith
+whole_room : (size : ℕ) (g : FillingState) → IsNew size g → length g.bytes + length g.draft + length g.spare ≡ g.label.size → length g.spare ≡ size
+whole_room size g new parts = let b = ap length new.bytes in let d = ap length new.draft in let l = new.label in omega arith
+
+-- ---- what is finished lacks the room for a greater hint too
+pub filled_weaker : (hint more : ℕ) (live : List Fetched) → AreFilled hint live → AreFilled (max hint more) live
+filled_weaker hint more [] all = tt
+filled_weaker hint more (s ∷ live) all = ((λ finished. let low = all.0 finished in omega arith), filled_weaker hint more live all.1)
+
+short_filled : (hint : ℕ) (f : FillingState) → length f.bytes + length f.draft + length f.spare ≡ f.label.size → length f.spare < hint → hint ≤ f.label.size → IsFilled hint (committed_in f true)
+short_filled hint f parts short fits finished = let both = length-append f.bytes f.draft in omega arith
+
+filled_now : (s s1 : SegmentsState) (g : FillingState) (hint : ℕ) → s1 ≡ record s { home = s1.home; writer = with_next g hint s.writer } → AreFilled s.writer.hint s.live → AreFilled s1.writer.hint s1.live
+filled_now s s1 g hint taken all = subst (λ (t : SegmentsState). AreFilled t.writer.hint t.live) (sym taken) (filled_weaker s.writer.hint hint s.live all)
 
 few_next : (left : Buffer Filling) (current : Current) (drafted count size hint : ℕ) (has : WriterHas) (s s1 : SegmentsState) (g : FillingState)
     → Found left current drafted count size hint has s s1 g → length (with_next g hint has).segments ≤ count
@@ -229,9 +241,10 @@ aside_fills left left' f g drafted count size hint has has1 has' s s1 s' found h
           (leaves_it left g drafted count size hint has new f found.writing was_left.0 parts found.short few));
       draft = ap (λ (l : Buffer Filling). drafts_in (l.items ++ g ∷ [])) was_left.1 ∙ no_drafts (left.items ++ f ∷ []) g new.draft;
       hint_is = ap (λ w. w.hint) next;
-      enough = enough_room size hint g new found.parts found.fits;
+      whole = whole_room size g new found.parts;
       home = found.starts.block ∙ ap (λ (t : SegmentsState). block_in g.label ∷ t.home) (sym state);
       runs = ap (λ (t : SegmentsState). runs_of t.live) (state ∙ found.taken);
+      filled = λ all. subst (λ (t : SegmentsState). AreFilled t.writer.hint t.live) (sym state) (filled_now s s1 g hint found.taken all);
       segments = subst (λ (t : SegmentsState). t ≡ record s { home = t.home; live = t.live; writer = t.writer }) (sym state) (
           found.taken ∙ (λ i. record s { home = s1.home; live = (ap (λ (t : SegmentsState). t.live) (sym found.taken)) i; writer = (ap (λ (t : SegmentsState). t.writer) (sym found.taken)) i }));
     }
@@ -247,9 +260,15 @@ aside_fills left left' f g drafted count size hint has has1 has' s s1 s' found h
           (subst (IsWriting left (Current.Filling g) drafted count size) (sym next) (finishes_it left g drafted count size hint has new f found.writing was_finished.0 one));
       draft = ap (λ (l : Buffer Filling). drafts_in (l.items ++ g ∷ [])) was_finished.1 ∙ no_drafts left.items g new.draft ∙ sym (no_drafts left.items f was_finished.0);
       hint_is = ap (λ w. w.hint) next;
-      enough = enough_room size hint g new found.parts found.fits;
+      whole = whole_room size g new found.parts;
       home = found.starts.block ∙ ap (λ h. block_in g.label ∷ h) (sym (ap (λ (t : SegmentsState). t.home) state));
       runs = ap runs_of live ∙ finished_runs s.home s.live s.writer.segments s.blocks f found.order only one.sent was_finished.0;
+      filled = λ all.
+          let hint_is = ap (λ (t : SegmentsState). t.writer.hint) found.taken in
+          let label = (last_all (IsSized size) left.items f found.writing.sizes).0 in let short = found.short in let fits = found.fits in
+          let low : IsFilled hint (committed_in f true) = short_filled hint f parts short (omega arith) in
+          subst (λ (t : SegmentsState). AreFilled t.writer.hint t.live) (sym state)
+          (sent_filled s1.writer.hint f.sent (committed_in f true) s1.live (λ finished. let below = low finished in omega arith) (filled_now s s1 g hint found.taken all));
       segments = kept_parts s s1 s' (sent_in f.sent (committed_in f true) s1.live) (without_first s1.writer) state found.taken;
     }
   where
@@ -276,8 +295,9 @@ untaken_fills left none g drafted count size hint has has1 s s1 found half =
       writing = subst (IsWriting left (Current.Filling g) drafted count size) (sym next) (first_taken left g drafted count size hint has new none found.writing few);
       draft = no_drafts left.items g new.draft ∙ ap drafts_in (sym (append-nil left.items));
       hint_is = ap (λ w. w.hint) next;
-      enough = enough_room size hint g new found.parts found.fits;
+      whole = whole_room size g new found.parts;
       home = found.starts.block;
       runs = ap (λ (t : SegmentsState). runs_of t.live) found.taken;
+      filled = filled_now s s1 g hint found.taken;
       segments = found.taken ∙ (λ i. record s { home = s1.home; live = (ap (λ (t : SegmentsState). t.live) (sym found.taken)) i; writer = (ap (λ (t : SegmentsState). t.writer) (sym found.taken)) i });
     }

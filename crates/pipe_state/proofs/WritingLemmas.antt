@@ -1,5 +1,5 @@
 -- The writer's segments.
-use Rattle.std.proofs.Common.{Global, ◌≡◌, ◌≤◌, ◌<◌, ◌+◌, ◌*◌, ◌^◌, ℕ, suc, Bool, List, [], ◌∷◌, ◌++◌, length, take, drop, refl, sym, ap, subst, ◌∙◌, arith, append_assoc, Some}
+use Rattle.std.proofs.Common.{Global, ◌≡◌, ◌≤◌, ◌<◌, ◌+◌, ◌*◌, ◌^◌, ℕ, suc, Bool, true, false, List, [], ◌∷◌, ◌++◌, length, take, drop, refl, sym, ap, subst, ◌∙◌, arith, append_assoc, Some}
 use Rattle.std.specs.Prelude.{map, slice_get, Vec}
 use Rattle.std.specs.List.{AllByRecursion}
 use Rattle.std.specs.Vec.{with_items_from}
@@ -14,11 +14,11 @@ use Rattle.pipe_state.specs.Fetched.{Fetched}
 use Rattle.pipe_state.specs.Released.{BlockName}
 use Rattle.pipe_state.specs.Sides.{FillingState, Unfinished, WriterHas, IsUnsent, unfinished_of}
 use Rattle.pipe_state.specs.Sending.{committed_in}
-use Rattle.pipe_state.specs.Segments.{AreInOrder, SegmentsState, SendsOnly, sent_in}
+use Rattle.pipe_state.specs.Segments.{AreFilled, AreInOrder, IsFilled, SegmentsState, SendsOnly, sent_in}
 use Rattle.pipe_state.specs.Lying.{AreFull, HaveOwnIds, runs_of}
 use Rattle.pipe_state.specs.Current.{HasDraft, IsAdvanced, IsCommitted, drafts_in, free_in, list_of, with_advanced}
 use Rattle.pipe_state.specs.CurrentLending.{with_room}
-use Rattle.pipe_state.specs.Writing.{IsSized, IsWriting}
+use Rattle.pipe_state.specs.Writing.{IsLeft, IsSized, IsWriting}
 use Rattle.pipe_state.specs.declared.filling.Filling.{Filling}
 use Rattle.pipe_state.specs.declared.current.Current.{Current}
 use Rattle.pipe_state.proofs.ListLemmas.{all_before, all_behind, first_apart}
@@ -42,17 +42,30 @@ pub nothing_drafted : (home : List BlockName) (live : List Fetched) (unfinished 
 nothing_drafted home live unfinished blocks segment draft own order none =
     sym (ap (λ d. joined (runs_of live ++ run_in segment d)) none ∙ ap joined (append-nil (runs_of live)) ∙ live_apart home live unfinished blocks own order)
 
--- ---- those that were left, one after the other
-pub record Next (left left' : List FillingState) (f : FillingState) : Type 0 where
-  pub apart : left ≡ f ∷ left'
-  pub draft : HasDraft f
-  pub rest : AllByRecursion HasDraft left'
+-- ---- what is finished has too little room
+pub sent_filled : (hint : ℕ) (sent : Bool) (s : Fetched) (live : List Fetched) → IsFilled hint s → AreFilled hint live → AreFilled hint (sent_in sent s live)
+sent_filled hint false s live one all = all_behind (IsFilled hint) live s all one
+sent_filled hint true s [] one all = tt
+sent_filled hint true s (t ∷ []) one all = (one, tt)
+sent_filled hint true s (t ∷ r ∷ live) one all = (all.0, sent_filled hint true s (r ∷ live) one all.1)
 
-pub next : (left left' : List FillingState) (f : FillingState) → slice_get left 0 ≡ Some f → left' ≡ drop 1 left → AllByRecursion HasDraft left → Next left left' f
-next left left' f first is drafted =
+pub going_filled : (hint : ℕ) (f : FillingState) → IsFilled hint (committed_in f false)
+going_filled hint f finished = absurd (cc (finished))
+
+pub left_filled : (hint : ℕ) (f : FillingState) → IsLeft hint f → IsFilled hint (committed_in f true)
+left_filled hint f left finished = let some = left.0 in let low = left.1 in let both = length-append f.bytes f.draft in omega arith
+
+-- ---- those that were left, one after the other
+pub record Next (hint : ℕ) (left left' : List FillingState) (f : FillingState) : Type 0 where
+  pub apart : left ≡ f ∷ left'
+  pub first : IsLeft hint f
+  pub rest : AllByRecursion (IsLeft hint) left'
+
+pub next : (hint : ℕ) (left left' : List FillingState) (f : FillingState) → slice_get left 0 ≡ Some f → left' ≡ drop 1 left → AllByRecursion (IsLeft hint) left → Next hint left left' f
+next hint left left' f first is all_left =
     let apart : left ≡ f ∷ left' = first_apart left f first ∙ ap (λ l. f ∷ l) (sym is) in
-    let all = subst (AllByRecursion HasDraft) apart drafted in
-    record { apart = apart; draft = all.0; rest = all.1 }
+    let all = subst (AllByRecursion (IsLeft hint)) apart all_left in
+    record { apart = apart; first = all.0; rest = all.1 }
 
 pub next_runs : (runs runs' : List Run) (left left' : List FillingState) (f : FillingState) → left ≡ f ∷ left' → runs' ≡ joined (runs ++ run_in f.label.id f.draft)
     → joined (runs' ++ drafts_in left') ≡ joined (runs ++ drafts_in left)
@@ -147,7 +160,7 @@ committed_writing left left' (Current.Filling f) (Current.Untaken w) drafted cou
 committed_writing left left' (Current.Untaken v) (Current.Filling g) drafted count size has has' none same told is = absurd same
 
 -- ---- how much is drafted
-run_len : (segment : ℕ) (bytes : List ℕ) → bytes_of (run_in segment bytes) ≡ bytes
+pub run_len : (segment : ℕ) (bytes : List ℕ) → bytes_of (run_in segment bytes) ≡ bytes
 run_len segment [] = refl
 run_len segment (b ∷ bytes) = append-nil (b ∷ bytes)
 

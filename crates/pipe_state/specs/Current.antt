@@ -18,6 +18,11 @@ abbrev pub IsSound : List FillingState → Current → Type 0
 IsSound left (Current.Filling f) = Unit {0}
 IsSound left (Current.Untaken none) = (none.items ≡ []) × (left ≡ [])
 
+-- What was committed, what is drafted and what is free are all that it has.
+abbrev pub IsWhole : Current → Type 0
+IsWhole (Current.Filling f) = length f.bytes + length f.draft + length f.spare ≡ f.label.size
+IsWhole (Current.Untaken none) = Unit {0}
+
 -- what is drafted, segment by segment
 abbrev pub drafts_in : List FillingState → List Run
 drafts_in segments = flat_map (λ (f : FillingState). run_in f.label.id f.draft) segments

@@ -6,7 +6,8 @@ use Rattle.pipe_core.specs.Answers.{Answer, Answers}
 use Rattle.pipe_core.specs.Standing.{StandsFor, Thresholds, thresholds_of}
 use Rattle.seg_block.specs.Numbered.{weigh}
 use Rattle.pipe_state.specs.Released.{BlockName, bytes_in, first_goes}
-use Rattle.pipe_state.specs.Segments.{Releases, SegmentsState}
+use Rattle.pipe_state.specs.Chains.{first_len}
+use Rattle.pipe_state.specs.Segments.{AreFilled, Releases, SegmentsState}
 use Rattle.pipe_state.specs.Lying.{HaveOwnIds, Lies, runs_of}
 use Rattle.pipe_state.specs.declared.reading.Reading.{Reading}
 
@@ -53,6 +54,8 @@ pub record IsHeld (p : PipeHeld) (retired : Option Reading) : Type 0 where
   pub history : (h : List Call) × HoldsRuns p h
   pub own : HaveOwnIds p.segments.blocks
   pub lent : IfSome p.control.lent (λ n. p.segments.reader.skip + n ≡ length (bytes_in p.segments.reader.segments))
+  pub within : IsNone p.control.gone → p.segments.reader.skip ≤ first_len p.segments.live
+  pub filled : IsNone p.control.ended → AreFilled p.segments.writer.hint p.segments.live
   pub kept : IsKept p.control.gone p.segments retired
   pub ended : IsSome p.control.ended → p.segments.writer.segments ≡ []
 

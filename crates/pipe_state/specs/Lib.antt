@@ -1,3 +1,4 @@
+pub mod Options
 pub mod Fetched
 pub mod Chains
 pub mod Released
@@ -11,3 +12,4 @@ pub mod Writing
 pub mod WritingLending
 pub mod Lying
 pub mod Held
+pub mod Full

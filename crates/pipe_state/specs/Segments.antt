@@ -1,10 +1,11 @@
 -- What the two ends of a pipe share of its segments.
-use Rattle.std.specs.Prelude.{◌≡◌, ◌+◌, ℕ, Bool, true, false, IsSome, List, [], ◌∷◌, ◌++◌, length, drop, map, max}
+use Rattle.std.specs.Prelude.{◌≡◌, ◌≤◌, ◌<◌, ◌+◌, ◌-◌, ℕ, Bool, true, false, IsSome, List, [], ◌∷◌, ◌++◌, length, drop, map, max}
 use Rattle.std.specs.List.{AllByRecursion}
 use Rattle.circular_buffer.specs.Buffer.{Buffer}
 use Rattle.seg_block.specs.Numbered.{weigh}
 use Rattle.seg_block.specs.declared.block.Block.{Block}
 use Rattle.pipe_state.specs.Fetched.{Fetched, AllFit, arrive}
+use Rattle.pipe_state.specs.Chains.{first_len}
 use Rattle.pipe_state.specs.Released.{BlockName, block_in, blocks_in, bytes_in, first_goes, names_of}
 use Rattle.pipe_state.specs.Sending.{committed_in}
 use Rattle.pipe_state.specs.Sides.{FillingState, ReaderHas, Unfinished, WriterHas, IsUnsent, going_of, unfinished_of, unsent_of}
@@ -58,6 +59,13 @@ pub record AreInOrder (home : List BlockName) (live : List Fetched) (unfinished 
   pub unsent : AllByRecursion IsUnsent (unsent_of unfinished)
   pub placed : ArePlaced home before unfinished blocks
 
+-- Where the writer has finished it, it has too little room for so many bytes.
+abbrev pub IsFilled : ℕ → Fetched → Type 0
+IsFilled hint segment = segment.finished ≡ true → segment.label.size - hint < length segment.bytes
+
+abbrev pub AreFilled : ℕ → List Fetched → Type 0
+AreFilled hint segments = AllByRecursion (IsFilled hint) segments
+
 -- all but the first come with their front
 abbrev pub AreFronted : List Arrival → Type 0
 AreFronted arrivals = AllByRecursion (λ a. IsSome a.front) (drop 1 arrivals)
@@ -107,6 +115,7 @@ pub record Releases (n : ℕ) (before after : SegmentsState) : Type 0 where
   pub live : before.live ≡ gone ++ after.live
   pub finished : AllByRecursion IsFinished gone
   pub skip : before.reader.skip + n ≡ length (bytes_in gone) + after.reader.skip
+  pub within : after.reader.skip ≤ first_len after.live
   pub stays : first_goes after.reader.skip after.reader.segments ≡ false
   pub home : after.home ≡ before.home ++ blocks_in gone
   pub kept : after ≡ record before { home = after.home; live = after.live; reader = after.reader }

@@ -1,12 +1,12 @@
 -- What of a pipe's segments lies with the writer.
-use Rattle.std.specs.Prelude.{◌≡◌, ◌≤◌, ◌<◌, ◌+◌, ◌*◌, ◌^◌, ◌⊎◌, ℕ, List, [], ◌∷◌, ◌++◌, length, drop, map, max}
+use Rattle.std.specs.Prelude.{◌≡◌, ◌≤◌, ◌<◌, ◌+◌, ◌*◌, ◌^◌, ◌⊎◌, ◌-◌, ℕ, List, [], ◌∷◌, ◌++◌, length, drop, map, max}
 use Rattle.std.specs.List.{AllByRecursion}
 use Rattle.circular_buffer.specs.Buffer.{Buffer, buffer}
 use Rattle.pipe_core.specs.History.{Run, bytes_of}
-use Rattle.pipe_state.specs.Sides.{FillingState, WriterHas, IsUnsent, unfinished_of}
+use Rattle.pipe_state.specs.Sides.{FillingState, WriterHas, IsUnsent, going_of, unfinished_of}
 use Rattle.pipe_state.specs.Lying.{runs_of}
-use Rattle.pipe_state.specs.Released.{BlockName}
-use Rattle.pipe_state.specs.Segments.{SegmentsState, with_finished, without_first}
+use Rattle.pipe_state.specs.Released.{BlockName, bytes_in}
+use Rattle.pipe_state.specs.Segments.{AreFilled, SegmentsState, with_finished, without_first}
 use Rattle.pipe_state.specs.Current.{HasDraft, IsSound, drafts_in, list_of}
 use Rattle.pipe_state.specs.declared.filling.Filling.{Filling}
 use Rattle.pipe_state.specs.declared.current.Current.{Current}
@@ -46,13 +46,21 @@ SetsAside f left segments has left' segments' has' =
     (HasDraft f × (left' ≡ buffer (left.items ++ f ∷ []) left.capacity) × (segments' ≡ segments) × (has' ≡ has))
     ⊎ ((f.draft ≡ []) × (left' ≡ left) × (segments' ≡ with_finished f segments) × (has' ≡ without_first has))
 
--- The writer fills another segment, in which so many bytes are free. What was committed stays where it lies.
+-- The segments that the writer has not finished have at least so many bytes each, committed and drafted, all added up; and those
+-- behind the first so many drafted ones.
+pub record TakeUp (least : ℕ) (w : WritingState) : Type 0 where
+  pub all : length w.has.segments * least ≤ length (bytes_in (going_of w.has.segments)) + length (bytes_of w.draft)
+  pub behind : (length w.has.segments - 1) * least ≤ length (bytes_of w.draft)
+
+-- The writer fills another segment, of which all bytes are free. What was committed stays where it lies, and a segment that is
+-- finished now has too little room.
 pub record TakesNext (hint n : ℕ) (w : WritingState) (s : SegmentsState) (w' : WritingState) (s' : SegmentsState) : Type 0 where
   pub free_len : n ≡ length w'.free
-  pub enough : hint ≤ n
+  pub whole : n ≡ w.size
   pub writing : w' ≡ record w { free = w'.free; has = w'.has }
   pub hint_is : w'.has.hint ≡ max w.has.hint hint
   pub first : BlockName
   pub home : s.home ≡ first ∷ s'.home
   pub runs : runs_of s'.live ≡ runs_of s.live
+  pub filled : AreFilled s.writer.hint s.live → AreFilled s'.writer.hint s'.live
   pub segments : s' ≡ record s { home = s'.home; live = s'.live; writer = s'.writer }

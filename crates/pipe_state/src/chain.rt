@@ -1,15 +1,20 @@
 //! The chain.
 
-ghost use Rattle.std.specs.Prelude.{◌≡◌, ◌≤◌, ◌<◌, ◌+◌, ◌∷◌, ◌++◌, [], length, Some, None, IfOk, slice_get};
+ghost use Rattle.std.specs.Prelude.{◌≡◌, ◌≤◌, ◌<◌, ◌+◌, ◌^◌, ◌∷◌, ◌++◌, [], length, Some, None, IfOk, slice_get};
 ghost use Rattle.circular_buffer.specs.Buffer.{buffer};
 ghost use Rattle.pipe_state.specs.Fetched.{AllFit, Continues, Fits, FitsLast, arrive, arrived, all_fetched, continued, continue_last, fetched_front};
-ghost use Rattle.pipe_state.specs.Chains.{front_at};
+ghost use Rattle.span_seq.specs.Sequence.{bytes, part};
+ghost use Rattle.span_seq.specs.Spans.{whole_of};
+ghost use Rattle.pipe_core.specs.History.{bytes_of};
+ghost use Rattle.pipe_core.specs.Lends.{drop_bytes};
+ghost use Rattle.pipe_state.specs.Lying.{runs_of};
+ghost use Rattle.pipe_state.specs.Chains.{front_at, spans_of};
 
 use crate::arrival::{Arrival, Link};
 use crate::rings::put_behind;
 use circular_buffer::HeapCircularBuffer;
 use seg_block::{Mark, SegFront, TailEnd};
-use span_seq::Spans;
+use span_seq::{Sequence, Spans};
 use std::alloc::{AllocError, Global};
 use std::marker::Model;
 
@@ -102,6 +107,16 @@ impl Chain {
             Some(front) => self.add(front, &mark, end),
             None => self.extend_last(&mark, end),
         }
+    }
+
+    /// All that its segments have behind what is consumed, where it lies.
+    pub fn whole(&self) -> Sequence<'_, Chain>
+        requires { length (bytes_of (drop_bytes self.now.skip (runs_of (all_fetched self.now.links)))) ≤ 2 ^ 62 }
+        ensures part { part result ≡ whole_of (spans_of self.now.skip (all_fetched self.now.links)) }
+        ensures bytes { bytes result ≡ bytes_of (drop_bytes self.now.skip (runs_of (all_fetched self.now.links))) }
+    {
+        let _ = &self.links;
+        Sequence::whole(self)
     }
 
     /// The front of the segment in which a span lies.

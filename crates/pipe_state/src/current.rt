@@ -13,8 +13,19 @@ pub enum Current {
 }
 
 impl Current {
-    ghost use Rattle.pipe_state.specs.Current.{IsAdvanced, free_in};
+    ghost use Rattle.pipe_state.specs.Current.{IsAdvanced, IsWhole, free_in};
     ghost use Rattle.pipe_state.specs.CurrentLending.{LendsRoom};
+
+    // How many bytes are free.
+    pub fn room(&self) -> usize
+        ensures room { result ≡ length (free_in self.now) }
+        ensures size { IsWhole self.now }
+    {
+        match self {
+            Current::Filling(filling) => filling.room(),
+            Current::Untaken(none) => none.len(),
+        }
+    }
 
     // The first `n` bytes of its free part join the draft.
     pub fn advance(&mut self, n: usize)

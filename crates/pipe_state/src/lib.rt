@@ -5,9 +5,11 @@ mod arrival;
 mod chain;
 mod current;
 mod filling;
+mod full;
 mod inbox;
 mod laws;
 mod lending;
+mod options;
 mod reading;
 mod release;
 mod rings;
@@ -19,10 +21,12 @@ mod writing;
 pub use arrival::{Arrival, Link};
 pub use chain::Chain;
 pub use filling::Filling;
+pub use full::Full;
 pub use inbox::Inbox;
 pub use laws::{
     a_commit_joins_the_runs, numbered_blocks_fit, runs_lie_with_the_segments, spans_are_the_runs,
 };
+pub use options::{Field, Options};
 pub use reading::Reading;
 pub use segments::Segments;
 pub use sides::{ReaderSide, WriterSide};

@@ -19,6 +19,7 @@ impl Chain {
         requires room { length home.old.items + length self.old.links ≤ home.old.capacity }
         ensures links { all_fetched self.new.links ≡ left_after (self.old.skip + n) (all_fetched self.old.links) }
         ensures skip { self.new.skip ≡ skip_after (self.old.skip + n) (all_fetched self.old.links) }
+        ensures within { self.new.skip ≤ first_len (all_fetched self.new.links) }
         ensures capacity { self.new.capacity ≡ self.old.capacity }
         ensures home { names_of home.new.items ++ blocks_in (all_fetched self.new.links) ≡ names_of home.old.items ++ blocks_in (all_fetched self.old.links) }
         ensures home_capacity { home.new.capacity ≡ home.old.capacity }

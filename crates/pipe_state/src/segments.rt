@@ -14,14 +14,13 @@ use crate::filling::Filling;
 use crate::inbox::Inbox;
 use crate::reading::Reading;
 use crate::rings::{put_before, put_behind};
-use crate::sides::{ReaderSide, WriterSide};
+use crate::sides::{MadeOf, ReaderSide, WriterSide};
 use circular_buffer::HeapCircularBuffer;
 use ghost_halves::{PrivateHalf, SharedHalf, Update, new_halves, update_halves};
 use seg_block::Block;
 use span_seq::Spans;
 use std::alloc::{AllocError, Global};
 use std::marker::{Brand, Model};
-use std::snapshot::Snapshot;
 
 /// The blocks at home, and what is on its way to the reader.
 #[derive(Drop)]
@@ -32,7 +31,8 @@ pub struct Segments {
     writer: SharedHalf<WriterSide>,
     // How many segments the reader has.
     fetched: usize,
-    blocks: Snapshot<Vec<Block>>,
+    // Known to contracts alone.
+    made_of: SharedHalf<MadeOf>,
 }
 
 impl Model for Segments {
@@ -50,10 +50,10 @@ impl Model for Segments {
       writer = s.writer.value;
       reader_name = s.reader.name;
       writer_name = s.writer.name;
-      blocks = names_of s.blocks.value.items;
+      blocks = s.made_of.value;
     } };
 
-    ghost invariant = { λ s. IsSegments s.home s.inbox.arrivals s.reader.value s.writer.value (names_of s.blocks.value.items) × (s.fetched ≡ length s.reader.value.segments) };
+    ghost invariant = { λ s. IsSegments s.home s.inbox.arrivals s.reader.value s.writer.value s.made_of.value × (s.fetched ≡ length s.reader.value.segments) };
 }
 
 impl Segments {
@@ -73,7 +73,8 @@ impl Segments {
         let count = blocks.len();
         let mut home = HeapCircularBuffer::with_capacity(alloc, count)?;
         let inbox = Inbox::make(alloc, count)?;
-        let made_of = Snapshot::of(blocks);
+        let (mut made_of, mut made) = new_halves::<MadeOf>();
+        note_blocks::<Brand>(blocks.as_slice(), &mut made_of, &mut made);
         bring_home(blocks, &mut home);
         let (reader, readers) = new_halves::<ReaderSide>();
         let (writer, writers) = new_halves::<WriterSide>();
@@ -83,7 +84,7 @@ impl Segments {
             reader,
             writer,
             fetched: 0,
-            blocks: made_of,
+            made_of,
         };
         Ok((segments, readers, writers))
     }
@@ -99,7 +100,7 @@ impl Segments {
             reader: _,
             writer: _,
             fetched: _,
-            blocks: _,
+            made_of: _,
         } = self;
         for _ in 0..home.len() {
             match home.pop_front() {
@@ -114,6 +115,13 @@ impl Segments {
         ensures { result ≡ length self.now.home }
     {
         self.home.len()
+    }
+
+    /// How many segments there are.
+    pub fn count(&self) -> usize
+        ensures { result ≡ length self.now.blocks }
+    {
+        self.home.capacity()
     }
 
     /// How many segments the reader has.
@@ -140,6 +148,18 @@ impl Segments {
         ensures half { (half.new.value ≡ half.old.value) × (half.new.name ≡ half.old.name) }
     {
         update_halves::<WriterSide, Brand>(&mut self.writer, half);
+    }
+
+    /// What the reader has is what the ends share of it. It does nothing at run time.
+    #[inline]
+    pub fn agree_reader(&mut self, reading: &mut Reading)
+        requires pair { reading.old.half.name ≡ self.old.reader_name }
+        ensures same { reader_has reading.old.chain ≡ self.old.reader }
+        ensures segments { self.new ≡ self.old }
+        ensures chain { reading.new.chain ≡ reading.old.chain }
+        ensures pair { reading.new.half.name ≡ reading.old.half.name }
+    {
+        update_halves::<ReaderSide, Brand>(&mut self.reader, &mut reading.half);
     }
 
     /// A segment that was at home, for the writer, whose last one lacks room for `hint` bytes.
@@ -253,6 +273,19 @@ fn bring_home(blocks: &mut Vec<Block>, home: &mut HeapCircularBuffer<Block>)
             None => unreachable!(),
         }
     }
+}
+
+// Both halves say which blocks these are.
+fn note_blocks<A: Update<MadeOf>>(
+    blocks: &[Block],
+    shared: &mut SharedHalf<MadeOf>,
+    private: &mut PrivateHalf<MadeOf>,
+)
+    requires pair { private.old.name ≡ shared.old.name }
+    requires now { A.to shared.old.value ≡ names_of blocks.now }
+    ensures { shared.new.value ≡ names_of blocks.now }
+{
+    update_halves::<MadeOf, A>(shared, private);
 }
 
 // Both halves say what the chain is now.

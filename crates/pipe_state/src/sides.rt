@@ -44,3 +44,24 @@ impl Initial for WriterSide {
 
     ghost initial = { record { segments = []; hint = 0 } };
 }
+
+/// The blocks that a pipe is made of. No value of the type is made.
+#[derive(Drop)]
+pub struct MadeOf {
+    never: (),
+}
+
+impl Model for MadeOf {
+    ghost use Rattle.std.specs.Prelude.{[], List};
+    ghost use Rattle.pipe_state.specs.Released.{BlockName};
+
+    ghost Value = { List BlockName };
+
+    ghost view = { λ made. [] };
+}
+
+impl Initial for MadeOf {
+    ghost use Rattle.std.specs.Prelude.{[]};
+
+    ghost initial = { [] };
+}

@@ -1,16 +1,18 @@
 //! What the two ends of a pipe share.
 
-ghost use Rattle.std.specs.Prelude.{◌≡◌, ◌≤◌, ◌<◌, ◌+◌, ◌^◌, ◌↔◌, ◌∷◌, List, [], length, max, Some, IfNone, OnSome, IsNone, IsSome, IfSome, IsErr, IfErr, IfOk, OnErr, OnOk};
-ghost use Rattle.pipe_core.specs.History.{Call, Commit, EndWriter, Read, Advance, CancelRead, CancelFlush, bytes_of, closing};
+ghost use Rattle.std.specs.Prelude.{◌≡◌, ◌≢◌, ◌≤◌, ◌<◌, ◌+◌, ◌^◌, ◌↔◌, ◌∷◌, ◌++◌, List, [], length, max, IsNone, IsSome, IfSome, IsErr, IfErr, IfOk, OnErr, OnOk};
+ghost use Rattle.std.specs.Vec.{vec_len, vec_capacity};
+ghost use Rattle.pipe_core.specs.History.{Call, Commit, EndWriter, EndReader, Read, Advance, CancelRead, CancelFlush, bytes_of, closing};
 ghost use Rattle.pipe_core.specs.Answers.{Flushed, Gave, Woke};
-ghost use Rattle.pipe_core.specs.Wakes.{either_wake};
 ghost use Rattle.pipe_core.specs.Standing.{AreThresholds, MayAdvance};
-ghost use Rattle.pipe_state.specs.Released.{bytes_in, names_of};
+ghost use Rattle.pipe_state.specs.Released.{BlockName, bytes_in, names_of};
 ghost use Rattle.pipe_state.specs.Segments.{AreSized, all_home, reads_none, writes_none};
 ghost use Rattle.pipe_state.specs.Lying.{HaveOwnIds};
 ghost use Rattle.pipe_state.specs.Sides.{reader_has};
-ghost use Rattle.pipe_state.specs.Held.{HeldAnswers, HoldsRuns, Settles, held_made};
+ghost use Rattle.pipe_state.specs.Full.{IsFull};
+ghost use Rattle.pipe_state.specs.Held.{AreAll, HeldAnswers, HoldsRuns, Settles, held_made};
 
+use crate::full::Full;
 use crate::reading::Reading;
 use crate::segments::Segments;
 use crate::sides::{ReaderSide, WriterSide};
@@ -57,6 +59,7 @@ impl PipeState {
         ensures reader { IfOk result (λ made. made.1.value ≡ reads_none) }
         ensures writer { IfOk result (λ made. made.2.value ≡ writes_none) }
         ensures moved { OnOk result (blocks.new.items ≡ []) }
+        ensures capacity { vec_capacity blocks.new ≡ vec_capacity blocks.old }
         ensures unchanged { OnErr result (blocks.new ≡ blocks.old) }
     {
         let (segments, reader, writer) = Segments::make(alloc, blocks)?;
@@ -68,9 +71,9 @@ impl PipeState {
         Ok((state, reader, writer))
     }
 
-    /// Another segment for the writer, for want of room for `hint` bytes in the one that it fills. How many bytes are free then, or
-    /// None where no segment is at home. It is no call of the pipe's history.
-    pub fn room(&mut self, hint: usize, writing: &mut Writing) -> Option<usize>
+    /// Another segment for the writer, for want of room for `hint` bytes in the one that it fills. How many bytes are free then,
+    /// which are all that it has, or what fills the pipe, where no segment is at home. It is no call of the pipe's history.
+    pub fn room(&mut self, hint: usize, writing: &mut Writing) -> Result<usize, Full>
         requires pair { writing.old.name ≡ self.old.segments.writer_name }
         requires going { IsNone self.old.control.ended }
         requires short { length writing.old.free < hint }
@@ -80,16 +83,41 @@ impl PipeState {
         ensures stands { (h : List Call) → HoldsRuns self.old h → HoldsRuns self.new h }
         ensures made { held_made self.new ≡ held_made self.old }
         ensures control { self.new.control ≡ self.old.control }
-        ensures granted { IfSome result (λ n. (n ≡ length writing.new.free) × (hint ≤ n)) }
-        ensures writing { OnSome result ((writing.new ≡ record writing.old { free = writing.new.free; has = writing.new.has }) × (writing.new.has.hint ≡ max writing.old.has.hint hint)) }
-        ensures none { IfNone result ((self.old.segments.home ≡ []) × (self.new ≡ self.old) × (writing.new ≡ writing.old)) }
+        ensures granted { IfOk result (λ n. (n ≡ length writing.new.free) × (n ≡ writing.old.size) × (hint ≤ n)) }
+        ensures home { OnOk result (self.old.segments.home ≢ []) }
+        ensures writing { OnOk result ((writing.new ≡ record writing.old { free = writing.new.free; has = writing.new.has }) × (writing.new.has.hint ≡ max writing.old.has.hint hint)) }
+        ensures full { IfErr result (λ told. IsFull (max writing.old.has.hint hint) told self.old writing.old) }
+        ensures unchanged { OnErr result ((self.new ≡ self.old) × (writing.new ≡ writing.old)) }
     {
         match writing.take_next(hint, &mut self.segments) {
             Some(free) => {
                 settle(&mut self.retired, &mut self.segments, 0);
-                Some(free)
+                Ok(free)
             }
-            None => None,
+            None => Err(self.full(hint, writing)),
+        }
+    }
+
+    // What fills a pipe that has no segment at home.
+    fn full(&self, hint: usize, writing: &Writing) -> Full
+        requires home { self.now.segments.home ≡ [] }
+        requires same { writing.now.has ≡ self.now.segments.writer }
+        requires going { IsNone self.now.control.ended }
+        requires short { length writing.now.free < hint }
+        requires fits { hint ≤ writing.now.size }
+        requires sizes { AreSized writing.now.size self.now.segments.blocks }
+        requires count { length self.now.segments.blocks ≡ writing.now.count }
+        ensures { IsFull (max writing.now.has.hint hint) result self.now writing.now }
+    {
+        self.segments.order();
+        writing.take_up(hint, &self.segments);
+        let unfinished = writing.unfinished_len();
+        let finished = self.segments.count() - unfinished;
+        let reader = finished.min(self.segments.fetched_len());
+        Full {
+            writer: unfinished,
+            waiting: finished - reader,
+            reader,
         }
     }
 
@@ -103,6 +131,7 @@ impl PipeState {
         ensures unchanged { OnErr result ((self.new ≡ self.old) × (writing.new ≡ writing.old)) }
         ensures answers { IfOk result (λ answer. HeldAnswers self.old (Commit writing.old.draft ∷ []) (Flushed answer.0 answer.1) self.new) }
         ensures writing { OnOk result (writing.new ≡ record writing.old { draft = []; has = writing.new.has }) }
+        ensures hint { writing.new.has.hint ≡ writing.old.has.hint }
     {
         writing.is_full();
         let drafted = writing.draft_len();
@@ -136,7 +165,7 @@ impl PipeState {
         match self.commit(&mut writing) {
             Ok((_, first)) => {
                 let second = self.end(writing, code);
-                Ok(either(second, first))
+                Ok(second.or(first))
             }
             Err(refused) => Err((writing, refused)),
         }
@@ -178,7 +207,6 @@ impl PipeState {
     /// that are finished, and of which all is given up, go home.
     pub fn advance(&mut self, c: u64, e: u64, reading: &mut Reading) -> Wake
         requires pair { reading.old.half.name ≡ self.old.segments.reader_name }
-        requires chain { reader_has reading.old.chain ≡ self.old.segments.reader }
         requires lent { MayAdvance self.old.control.lent c e }
         ensures answers { HeldAnswers self.old (Advance c e ∷ []) (Woke result) self.new }
         ensures chain { reader_has reading.new.chain ≡ self.new.segments.reader }
@@ -186,8 +214,50 @@ impl PipeState {
         ensures capacity { reading.new.chain.capacity ≡ reading.old.chain.capacity }
     {
         let wake = self.control.advance(c, e);
+        self.segments.agree_reader(reading);
         self.segments.release(c as usize, reading);
         wake
+    }
+
+    /// Completes the reader with a code. A lend ends, what was committed is given up, and the segments that are finished go home.
+    /// The reader's part stays here.
+    pub fn end_reader(&mut self, reading: Reading, code: u32) -> Wake
+        requires pair { reading.half.name ≡ self.old.segments.reader_name }
+        requires room { length self.old.segments.blocks ≤ reading.chain.capacity }
+        requires attended { IsNone self.old.control.gone }
+        ensures { HeldAnswers self.old (EndReader code ∷ []) (Woke result) self.new }
+    {
+        let mut reading = reading;
+        let held = self.control.committed() - self.control.consumed();
+        let wake = self.control.end_reader(code);
+        self.segments.fetch(&mut reading);
+        self.segments.release(held as usize, &mut reading);
+        self.retired = Some(reading);
+        wake
+    }
+
+    /// How many bytes were committed before the reader completed, and how many of them it consumed. All blocks go behind those in
+    /// the list, which has room for them.
+    pub fn close(self, list: &mut Vec<Block>) -> (u64, u64)
+        requires writer { IsSome self.control.ended }
+        requires reader { IsSome self.control.gone }
+        requires room { vec_len list.old + length self.segments.blocks ≤ vec_capacity list.old }
+        ensures committed { result.0 ≡ self.control.committed }
+        ensures consumed { result.1 ≡ self.control.consumed }
+        ensures blocks { (home : List BlockName) × (names_of list.new.items ≡ names_of list.old.items ++ home) × AreAll home self.segments.blocks }
+    {
+        self.segments.order();
+        let carried = (self.control.committed(), self.control.consumed());
+        self.segments.into_blocks(list);
+        carried
+    }
+
+    /// The blocks that are at home, put behind those in the list, which has room for them.
+    pub fn into_blocks(self, list: &mut Vec<Block>)
+        requires room { vec_len list.old + length self.segments.home ≤ vec_capacity list.old }
+        ensures blocks { names_of list.new.items ≡ names_of list.old.items ++ self.segments.home }
+    {
+        self.segments.into_blocks(list);
     }
 
     /// Cancels the pending read, or the next one.
@@ -217,15 +287,5 @@ fn settle(retired: &mut Option<Reading>, segments: &mut Segments, n: usize)
             segments.release(n, reading);
         }
         None => {}
-    }
-}
-
-// Wakes an end where one of these does.
-fn either(a: Wake, b: Wake) -> Wake
-    ensures { result ≡ either_wake a b }
-{
-    Wake {
-        reader: a.reader | b.reader,
-        writer: a.writer | b.writer,
     }
 }

@@ -1,15 +1,15 @@
 //! The writer's part.
 
-ghost use Rattle.std.specs.Prelude.{◌≡◌, ◌≤◌, ◌<◌, ◌+◌, ◌*◌, ◌^◌, ◌++◌, ◌∷◌, [], length, map, take, drop, IfOk, IfSome, IfNone};
+ghost use Rattle.std.specs.Prelude.{◌≡◌, ◌≤◌, ◌<◌, ◌+◌, ◌-◌, ◌*◌, ◌^◌, ◌++◌, ◌∷◌, [], length, map, take, drop, max, IfOk, IfSome, IfNone};
 ghost use Rattle.std.specs.List.{AllByRecursion};
 ghost use Rattle.circular_buffer.specs.Buffer.{buffer};
 ghost use Rattle.pipe_core.specs.History.{bytes_of, run_in};
 ghost use Rattle.pipe_core.specs.Lends.{joined};
 ghost use Rattle.pipe_state.specs.Lying.{AreFull, HaveOwnIds, runs_of};
-ghost use Rattle.pipe_state.specs.Segments.{AreSized, EndsOnly, SendsOnly, writes_none};
-ghost use Rattle.pipe_state.specs.Writing.{SetsAside, TakesNext};
+ghost use Rattle.pipe_state.specs.Segments.{AreFilled, AreSized, EndsOnly, SendsOnly, writes_none};
+ghost use Rattle.pipe_state.specs.Writing.{IsLeft, SetsAside, TakeUp, TakesNext};
 ghost use Rattle.pipe_state.specs.Sides.{unfinished_of};
-ghost use Rattle.pipe_state.specs.Current.{HasDraft, IsCommitted, drafts_in, list_of};
+ghost use Rattle.pipe_state.specs.Current.{IsCommitted, drafts_in, list_of};
 
 use crate::current::Current;
 use crate::filling::Filling;
@@ -90,14 +90,36 @@ impl Writing {
         self.drafted
     }
 
-    /// How many bytes are free.
+    /// How many bytes are free, at most as many as a segment has.
     pub fn free_len(&self) -> usize
-        ensures { result ≡ length self.now.free }
+        ensures free { result ≡ length self.now.free }
+        ensures at_most { result ≤ self.now.size }
+    {
+        self.current.room()
+    }
+
+    /// How many segments the writer has not finished.
+    pub fn unfinished_len(&self) -> usize
+        ensures { result ≡ length self.now.has.segments }
     {
         match &self.current {
-            Current::Filling(filling) => filling.room(),
-            Current::Untaken(_) => 0,
+            Current::Filling(_) => self.left.len() + 1,
+            Current::Untaken(_) => self.left.len(),
         }
+    }
+
+    /// How much the segments that it has not finished take up, where the one that it fills lacks room for `hint` bytes. It changes
+    /// nothing.
+    #[inline]
+    pub fn take_up(&self, hint: usize, segments: &Segments)
+        requires same { self.now.has ≡ segments.now.writer }
+        requires short { length self.now.free < hint }
+        requires fits { hint ≤ self.now.size }
+        ensures { TakeUp (self.now.size - max self.now.has.hint hint + 1) self.now }
+    {
+        segments.order();
+        let _ = &self.left;
+        let _free = self.current.room();
     }
 
     /// Takes the first `n` bytes of the free part to the end of the draft.
@@ -122,6 +144,7 @@ impl Writing {
         requires count { length segments.old.blocks ≡ self.old.count }
         ensures taken { IfSome result (λ n. TakesNext hint n self.old segments.old self.new segments.new) }
         ensures none { IfNone result ((segments.old.home ≡ []) × (segments.new ≡ segments.old) × (self.new ≡ self.old)) }
+        ensures same { self.old.has ≡ segments.old.writer }
     {
         segments.order();
         match segments.take(hint, &mut self.half) {
@@ -174,9 +197,12 @@ impl Writing {
         ensures segments { SendsOnly segments.old segments.new }
         ensures writing { self.new ≡ record self.old { draft = []; has = self.new.has } }
         ensures hint { self.new.has.hint ≡ self.old.has.hint }
+        ensures filled { AreFilled segments.old.writer.hint segments.old.live → AreFilled segments.new.writer.hint segments.new.live }
     {
+        segments.agree(&mut self.half);
         finish_left(&mut self.left, segments, &mut self.half);
         commit_current(&mut self.current, segments, &mut self.half);
+        segments.agree(&mut self.half);
         self.drafted = 0;
     }
 }
@@ -231,12 +257,13 @@ fn finish_left(
 )
     requires pair { half.old.name ≡ segments.old.writer_name }
     requires first { half.old.value.segments ≡ map unfinished_of left.old.items ++ drop (length left.old.items) half.old.value.segments }
-    requires drafted { AllByRecursion HasDraft left.old.items }
+    requires left { AllByRecursion (IsLeft half.old.value.hint) left.old.items }
     requires own { HaveOwnIds segments.old.blocks }
     ensures left { left.new ≡ buffer [] left.old.capacity }
     ensures runs { runs_of segments.new.live ≡ joined (runs_of segments.old.live ++ drafts_in left.old.items) }
     ensures segments { SendsOnly segments.old segments.new }
     ensures half { half.new.value ≡ record half.old.value { segments = drop (length left.old.items) half.old.value.segments } }
+    ensures filled { AreFilled half.old.value.hint segments.old.live → AreFilled half.old.value.hint segments.new.live }
     ensures pair { half.new.name ≡ segments.new.writer_name }
     ensures name { half.new.name ≡ half.old.name }
 {
@@ -265,6 +292,7 @@ fn commit_current(
     ensures segments { SendsOnly segments.old segments.new }
     ensures half { half.new.value ≡ record half.old.value { segments = map unfinished_of (list_of current.new) } }
     ensures current { IsCommitted current.old current.new }
+    ensures filled { AreFilled half.old.value.hint segments.old.live → AreFilled half.old.value.hint segments.new.live }
     ensures pair { half.new.name ≡ segments.new.writer_name }
     ensures name { half.new.name ≡ half.old.name }
 {
@@ -290,6 +318,7 @@ fn commit_filling(
     ensures label { filling.new.label ≡ filling.old.label }
     ensures spare { filling.new.spare ≡ filling.old.spare }
     ensures draft { filling.new.draft ≡ [] }
+    ensures filled { AreFilled half.old.value.hint segments.old.live → AreFilled half.old.value.hint segments.new.live }
     ensures pair { half.new.name ≡ segments.new.writer_name }
     ensures name { half.new.name ≡ half.old.name }
 {

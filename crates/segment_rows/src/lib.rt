@@ -6,6 +6,8 @@ mod append;
 #[cfg(test)]
 mod chains;
 #[cfg(test)]
+mod full_pipes;
+#[cfg(test)]
 mod pools;
 #[cfg(test)]
 mod segments;

@@ -52,7 +52,7 @@ fn what_is_committed_is_lent_and_comes_home(rt: HostRuntime) -> Result<(), Fail>
     let mut writing = Writing::make(alloc, 2, 64, writer)?;
     let chain = Chain::make(alloc, 2)?;
     let mut reading = Reading { chain, half };
-    assert_eq!(rt; state.room(1, &mut writing), Some(64));
+    assert_eq!(rt; state.room(1, &mut writing), Ok(64));
     writing.advance(60);
     assert!(rt; state.commit(&mut writing).is_ok());
     let (reply, _) = state.read_at_least(0, &mut reading);

@@ -34,7 +34,7 @@ invariant_of-self c =
     let stand = settled p.control.gone p.segments c.commit-in-Ok.new.segments c.settle.new.segments p.retired c.settle.new.retired c.draft_len-drafted.result v.kept same len c.settle.ensures in
     let control = c.in-Ok.ensures.answers w.draft (sym c.draft_len-drafted.ensures) in
     commit_held p.control c.commit.new.self p.segments c.commit-in-Ok.new.segments c.settle.new.segments p.retired c.settle.new.retired w.draft v c.is_full.ensures c.commit-in-Ok.ensures.runs same stand
-    control.stands control.gone control.lent (subst IsNone (sym control.ended) (subst (λ t. IsNone t.control.ended) (sym c.self.view_is) c.requires.going))
+    control.stands control.gone control.lent (subst (λ t. IsNone t.control.ended) (sym c.self.view_is) c.requires.going) control.ended c.commit-in-Ok.ensures.filled
 
 pub returns-in-Ok-clause-answers : goal.returns-in-Ok-clause-answers
 returns-in-Ok-clause-answers c =

@@ -23,5 +23,5 @@ returns-then-draft_len-eq0-clause-answers c =
 pub returns-in-Ok-clause-answers : goal.returns-in-Ok-clause-answers
 returns-in-Ok-clause-answers c =
     let some : c.args.writing.draft ≢ [] = λ e. c.if-draft_len-eq0.false (c.draft_len.ensures ∙ ap (λ d. length (bytes_of d)) e) in
-    subst (λ w. HeldAnswers c.args.self.now (closing c.args.writing.draft c.args.code) (Woke w) c.end-second.new.self) (sym c.either.ensures)
+    subst (λ w. HeldAnswers c.args.self.now (closing c.args.writing.draft c.args.code) (Woke w) c.end-second.new.self) (sym c.or.ensures)
     (closes c.args.self.now c.commit.new.self c.end-second.new.self c.args.writing.draft c.args.code c.in-Ok.field-0-0 c.in-Ok.first c.end-second.result some c.in-Ok.ensures.answers c.end-second.ensures)

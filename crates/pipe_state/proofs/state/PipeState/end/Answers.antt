@@ -35,7 +35,7 @@ invariant_of-self c =
     let stand = settled p.control.gone p.segments c.complete.new.segments c.settle.new.segments p.retired c.settle.new.retired 0 v.kept same len c.settle.ensures in
     let control = c.end_writer-wake.ensures in
     end_held p.control c.end_writer-wake.new.self p.segments c.complete.new.segments c.settle.new.segments p.retired c.settle.new.retired c.args.code v runs same stand
-    control.stands control.gone control.lent (ap (λ w. w.segments) c.complete.ensures.none_left)
+    control.stands control.gone control.lent control.ended (ap (λ w. w.segments) c.complete.ensures.none_left)
 
 pub returns : goal.returns
 returns c =

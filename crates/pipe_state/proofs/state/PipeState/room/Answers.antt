@@ -30,7 +30,7 @@ invariant_of-self c =
     } in
     let len = same_len p.segments.live c.take_next.new.segments.live next.runs in
     let stand = settled p.control.gone p.segments c.take_next.new.segments c.settle.new.segments p.retired c.settle.new.retired 0 v.kept same len c.settle.ensures in
-    room_held p.control p.segments c.take_next.new.segments c.settle.new.segments p.retired c.settle.new.retired v next.runs same stand (subst (λ t. IsNone t.control.ended) (sym c.self.view_is) c.requires.going)
+    room_held p.control p.segments c.take_next.new.segments c.settle.new.segments p.retired c.settle.new.retired v next.runs same stand (subst (λ t. IsNone t.control.ended) (sym c.self.view_is) c.requires.going) next.filled
 
 pub returns-in-Some-clause-stands : goal.returns-in-Some-clause-stands
 returns-in-Some-clause-stands c h =

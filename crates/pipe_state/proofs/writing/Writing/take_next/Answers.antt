@@ -77,17 +77,18 @@ returns-in-Filling-clause-taken c =
     c.args.segments.now c.take.new.self c.set_aside.new.segments found c.take.ensures.half c.set_aside.ensures.size c.set_aside.ensures.aside in
     let after : WritingState = record { draft = drafts_in (c.set_aside.new.left.items ++ list_of c.replace.new.dest); free = free_in c.replace.new.dest; has = c.set_aside.new.half.value; name = c.set_aside.new.half.name; count = w.count; size = w.size } in
     let dest = c.replace.ensures.after in
-    let enough = fills.enough in
+    let whole = fills.whole in
     let draft = ap (λ cur. drafts_in (c.set_aside.new.left.items ++ list_of cur)) dest ∙ fills.draft ∙ ap (λ cur. drafts_in (w.left.items ++ list_of cur)) (sym e) in
     let name : c.set_aside.new.half.name ≡ w.half.name = c.set_aside.ensures.name ∙ c.take.ensures.pair ∙ ap (λ t. t.writer_name) c.in-Some.ensures.some.1 ∙ sym c.requires.pair ∙ ap (λ v. v.name) (sym c.self.view_is) in
     subst (λ v. TakesNext c.args.hint c.room-free.result v c.args.segments.now after c.set_aside.new.segments) c.self.view_is (record {
       free_len = spare ∙ ap (λ cur. length (free_in cur)) (sym dest);
-      enough = omega arith;
+      whole = omega arith;
       writing = (λ i. record { draft = draft i; free = after.free; has = after.has; name = name i; count = w.count; size = w.size });
       hint_is = fills.hint_is;
       first = block_in c.in-Some.next.label;
       home = fills.home;
       runs = fills.runs;
+      filled = fills.filled;
       segments = fills.segments;
     })
 
@@ -137,16 +138,17 @@ returns-in-Some-clause-taken c =
     let fills = untaken_fills w.left c.in-Untaken.field-0 c.in-Some.next w.drafted w.count w.size c.args.hint w.half.value c.take.new.half.value c.args.segments.now c.take.new.self found c.take.ensures.half in
     let after : WritingState = record { draft = drafts_in (w.left.items ++ list_of c.replace.new.dest); free = free_in c.replace.new.dest; has = c.take.new.half.value; name = c.take.new.half.name; count = w.count; size = w.size } in
     let dest = c.replace.ensures.after in
-    let enough = fills.enough in
+    let whole = fills.whole in
     let draft = ap (λ cur. drafts_in (w.left.items ++ list_of cur)) dest ∙ fills.draft ∙ ap (λ cur. drafts_in (w.left.items ++ list_of cur)) (sym e) in
     let name : c.take.new.half.name ≡ w.half.name = c.take.ensures.pair ∙ ap (λ t. t.writer_name) c.in-Some.ensures.some.1 ∙ sym c.requires.pair ∙ ap (λ v. v.name) (sym c.self.view_is) in
     subst (λ v. TakesNext c.args.hint c.room-free.result v c.args.segments.now after c.take.new.self) c.self.view_is (record {
       free_len = spare ∙ ap (λ cur. length (free_in cur)) (sym dest);
-      enough = omega arith;
+      whole = omega arith;
       writing = (λ i. record { draft = draft i; free = after.free; has = after.has; name = name i; count = w.count; size = w.size });
       hint_is = fills.hint_is;
       first = block_in c.in-Some.next.label;
       home = fills.home;
       runs = fills.runs;
+      filled = fills.filled;
       segments = fills.segments;
     })
