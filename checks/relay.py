@@ -31,18 +31,30 @@ def pieces_of(data, rng):
 
 
 def named_cases():
+    greatest, two_frames = b"\0\1\0\0" + b"a" * USUAL_MAX, FRAME + b"\0\0\0\1a"
     cases = [
-        ("a frame", FRAME, b"hi\n", 0, b""),
-        ("nothing", b"", b"", 0, b""),
-        ("an empty payload", b"\0\0\0\0", b"\n", 0, b""),
-        ("the greatest payload", b"\0\1\0\0" + b"a" * USUAL_MAX, b"a" * USUAL_MAX + b"\n", 0, b""),
-        ("a payload that is too big", b"\0\1\0\1", b"", 2, b"bad frame at 0: length 65537\n"),
-        ("a line feed within a payload", b"\0\0\0\1a\0\0\0\2a\n\0\0\0\1b", b"a\n", 2, b"bad frame at 5: byte 1\n"),
-        ("a payload broken off", b"\0\0\0\5h", b"", 3, b"truncated at 0\n"),
-        ("a head broken off", FRAME + b"\0\0", b"hi\n", 3, b"truncated at 6\n"),
+        ("a frame", "len4 line", FRAME, b"hi\n", 0, b""),
+        ("two frames", "len4 line", two_frames, b"hi\na\n", 0, b""),
+        ("two frames and small thresholds", "len4 line resume=1 seg=64 pause=1", two_frames, b"hi\na\n", 0, b""),
+        ("nothing", "len4 line", b"", b"", 0, b""),
+        ("an empty payload", "len4 line", b"\0\0\0\0", b"\n", 0, b""),
+        ("a carriage return", "line len2", b"a\r\nb", b"\0\2a\r\0\1b", 0, b""),
+        ("an empty line of at most nothing", "line len4 seg=64 max=0", b"\n", b"\0\0\0\0", 0, b""),
+        ("an empty line below a small pause", "line len4 pause=100", b"\n", b"\0\0\0\0", 0, b""),
+        ("an empty line without a pause", "line len4 pause=0 resume=70000", b"\n", b"\0\0\0\0", 0, b""),
+        ("the greatest payload", "len4 line", greatest, b"a" * USUAL_MAX + b"\n", 0, b""),
+        ("the greatest payload of two bytes", "len4 len2", b"\0\0\xff\xff" + b"a" * 65535, b"\xff\xff" + b"a" * 65535, 0, b""),
+        ("a payload past two bytes", "len4 len2", greatest, b"", 2, b"bad frame at 0: byte 65535\n"),
+        ("a payload that is too big", "len4 line", b"\0\1\0\1", b"", 2, b"bad frame at 0: length 65537\n"),
+        ("a line that is too big", "line len4 seg=64 max=0", b"a\n", b"", 2, b"bad frame at 0: length 1\n"),
+        ("a last line that is too big", "line line max=2", b"ab\nabc", b"ab\n", 2, b"bad frame at 3: length 3\n"),
+        ("a line feed within a payload", "len4 line", b"\0\0\0\1a\0\0\0\2a\n\0\0\0\1b", b"a\n", 2, b"bad frame at 5: byte 1\n"),
+        ("a payload broken off", "len4 line", b"\0\0\0\5h", b"", 3, b"truncated at 0\n"),
+        ("a head broken off", "len4 line", FRAME + b"\0\0", b"hi\n", 3, b"truncated at 6\n"),
+        ("a first head broken off", "len4 line", b"\0\0", b"", 3, b"truncated at 0\n"),
     ]
-    for command, (name, data, output, status, line) in itertools.product(COMMANDS, cases):
-        words = [command, "len4", "line"]
+    for command, (name, words, data, output, status, line) in itertools.product(COMMANDS, cases):
+        words = [command, *words.split()]
         check(f"{command}: {name}", run(words, [data]), (output, status, line))
         single = [bytes([byte]) for byte in data[:200]] + [data[200:]]
         check(f"{command}: {name}, byte by byte", run(words, single), (output, status, line))
@@ -68,6 +80,8 @@ def wrong_words():
     cases = [
         ([], 0), (["Copy", "len4", "line"], 0), (["drill"], 1), (["drill", "4294967296", "1", "line", "len4"], 1), (["serve"], 0), (["batch"], 1), (["batch", "0", "line", "len4", "a"], 1), (["batch", "2", "line", "len4"], 4), (["batch", "2", "line", "len4", "a", "a"], 5), (["batch", "2", "line", "len4", "a.out"], 4), (["--help", "x"], 0), (["--verbose"], 0), (["copy"], 1), (["copy", "len4"], 2), (["pump"], 1), (["pump", "len4"], 2),
         (["copy", "len4", "lines"], 2), ([*COPY, "x"], 3), ([*COPY, "max=01"], 3), ([*COPY, "max=16777217"], 3),
+        (["pump", "len4", "foo"], 2), (["pump", "line", "len4", "max=1", "max=1"], 4), (["drill", "len4", "line"], 1),
+        (["drill", "1", "1000001", "line", "len4"], 2), (["drill", "1", "1", "line", "len4", "x"], 5),
         ([*COPY, "max=1", "max=1"], 4), ([*COPY, "seg=63"], 3), ([*COPY, "resume=70000"], 3), ([*COPY, "resume=9", "pause=8"], 3),
     ]
     for words, index in cases:
@@ -89,7 +103,9 @@ def drills():
         ("2 1 line len4", b"frames=1 in=3 out=6\n", 0, b""), ("0 0 line len4", b"frames=0 in=0 out=0\n", 0, b""),
         ("95 2 line len4", b"frames=2 in=109 out=115\n", 0, b""),
         *[("7 100000 line len4", b"frames=100000 in=4849904 out=5149904\n", 0, b"")] * 3,
+        ("95 2 len4 line seg=64 pause=1", b"frames=2 in=115 out=109\n", 0, b""),
         ("95 2 line len4 max=94", b"", 2, b"bad frame at 0: length 95\n"),
+        ("2 2 len4 line max=2", b"", 2, b"bad frame at 6: length 15\n"),
     ]
     for words, output, status, line in cases:
         check(f"drill {words}", run(["drill", *words.split()], []), (output, status, line))

@@ -8,43 +8,67 @@ use std::alloc::{AllocError, Global};
 use std::io::{self, ErrorKind, Read, Write};
 use std::test::Fail;
 
-// As code that is generic in the device calls it.
-fn read_from<S: Source>(source: &mut S, buf: &mut [u8]) -> Result<usize, Failed> {
-    source.read(buf)
-}
-
-fn write_to<K: Sink>(sink: &mut K, piece: &[u8]) -> Result<usize, Failed> {
-    sink.write(piece)
-}
-
-fn flush<K: Sink>(sink: &mut K) -> Result<(), Failed> {
-    sink.flush()
-}
-
-fn bytes_of(alloc: Global, content: &[u8]) -> Result<Vec<u8>, AllocError> {
-    let mut bytes = Vec::new(alloc);
-    bytes.extend_from_slice(content)?;
-    Ok(bytes)
-}
-
 const FRAMES: &[u8] = &[0, 0, 0, 1, 97, 0, 0];
+
+/// Whether the reads of a source, each into so many bytes, answer so, and begin their buffer so.
+fn reads<S: Source>(source: &mut S, room: usize, steps: &[(Result<usize, Failed>, &[u8])]) -> bool {
+    for (answer, front) in steps {
+        let mut buf = [9; 8];
+        if source.read(&mut buf[..room.min(8)]) != *answer || !buf.starts_with(front) {
+            return false;
+        }
+    }
+    true
+}
+
+/// A call of a sink, and what it is to answer.
+#[derive(Clone, Copy)]
+enum Call<'a> {
+    Write(&'a [u8], Result<usize, Failed>),
+    Flush(Result<(), Failed>),
+}
+
+/// Whether the calls of a sink answer so.
+fn answers<K: Sink>(sink: &mut K, calls: &[Call<'_>]) -> bool {
+    for call in calls {
+        let is_so = match call {
+            Call::Write(piece, answer) => sink.write(piece) == *answer,
+            Call::Flush(answer) => sink.flush() == *answer,
+        };
+        if !is_so {
+            return false;
+        }
+    }
+    true
+}
+
+fn source_of(alloc: Global, cuts: &[usize], fails: &[u64]) -> Result<MemSource, AllocError> {
+    Ok(MemSource::make(
+        FRAMES.to_vec(alloc)?,
+        cuts.to_vec(alloc)?,
+        fails.to_vec(alloc)?,
+    ))
+}
+
+fn sink_of(
+    alloc: Global,
+    room: usize,
+    caps: &[usize],
+    fails: &[u64],
+) -> Result<MemSink, AllocError> {
+    MemSink::make(alloc, room, caps.to_vec(alloc)?, fails.to_vec(alloc)?)
+}
 
 #[test]
 fn a_source_in_memory_cuts_its_reads_and_fails_as_told(rt: HostRuntime) -> Result<(), Fail> {
-    let alloc = rt.alloc();
-    let cuts = vec![in alloc; 5, 2]?;
-    let mut source = MemSource::make(bytes_of(alloc, FRAMES)?, cuts, vec![in alloc; 3]?);
+    let mut source = source_of(rt.alloc(), &[5, 2], &[3])?;
     let steps: [(Result<usize, Failed>, &[u8]); 4] = [
         (Ok(5), &[0, 0, 0, 1, 97]),
         (Ok(2), &[0, 0]),
         (Err(Failed), &[]),
         (Ok(0), &[]),
     ];
-    for (answer, front) in steps {
-        let mut buf = [9; 8];
-        assert_eq!(rt; read_from(&mut source, &mut buf), answer);
-        assert!(rt; buf.starts_with(front));
-    }
+    assert!(rt; reads(&mut source, 8, &steps));
     Ok(())
 }
 
@@ -52,9 +76,7 @@ fn a_source_in_memory_cuts_its_reads_and_fails_as_told(rt: HostRuntime) -> Resul
 fn a_cut_of_nothing_gives_a_byte_and_past_the_cuts_a_read_fills_its_buffer(
     rt: HostRuntime,
 ) -> Result<(), Fail> {
-    let alloc = rt.alloc();
-    let fails = vec![in alloc; 1, 5]?;
-    let mut source = MemSource::make(bytes_of(alloc, FRAMES)?, vec![in alloc; 0]?, fails);
+    let mut source = source_of(rt.alloc(), &[0], &[1, 5])?;
     let steps: [(Result<usize, Failed>, &[u8]); 6] = [
         (Err(Failed), &[]),
         (Ok(1), &[0]),
@@ -63,23 +85,19 @@ fn a_cut_of_nothing_gives_a_byte_and_past_the_cuts_a_read_fills_its_buffer(
         (Err(Failed), &[]),
         (Ok(0), &[]),
     ];
-    for (answer, front) in steps {
-        let mut buf = [9; 4];
-        assert_eq!(rt; read_from(&mut source, &mut buf), answer);
-        assert!(rt; buf.starts_with(front));
-    }
+    assert!(rt; reads(&mut source, 4, &steps));
     Ok(())
 }
 
 #[test]
 fn a_whole_source_gives_all_that_fits(rt: HostRuntime) -> Result<(), Fail> {
-    let mut source = WholeSource::make(bytes_of(rt.alloc(), FRAMES)?);
-    let steps: [(usize, &[u8]); 3] = [(4, &[0, 0, 0, 1]), (3, &[97, 0, 0]), (0, &[])];
-    for (count, front) in steps {
-        let mut buf = [9; 4];
-        assert_eq!(rt; read_from(&mut source, &mut buf), Ok(count));
-        assert!(rt; buf.starts_with(front));
-    }
+    let mut source = WholeSource::make(FRAMES.to_vec(rt.alloc())?);
+    let steps: [(Result<usize, Failed>, &[u8]); 3] = [
+        (Ok(4), &[0, 0, 0, 1]),
+        (Ok(3), &[97, 0, 0]),
+        (Ok(0), &[]),
+    ];
+    assert!(rt; reads(&mut source, 4, &steps));
     Ok(())
 }
 
@@ -87,27 +105,27 @@ fn a_whole_source_gives_all_that_fits(rt: HostRuntime) -> Result<(), Fail> {
 fn a_sink_of_one_byte_a_write_keeps_the_front_before_its_fault(
     rt: HostRuntime,
 ) -> Result<(), Fail> {
-    let alloc = rt.alloc();
-    let caps = vec![in alloc; 1, 1, 1, 1, 1, 1, 1]?;
-    let mut sink = MemSink::make(alloc, 16, caps, vec![in alloc; 4]?)?;
-    assert_eq!(rt; write_all(&mut sink, FRAMES), Err(BrokenOff { written: 3 }));
-    assert_eq!(rt; sink.bytes(), [0, 0, 0].as_slice());
-    assert_eq!(rt; write_all(&mut sink, &[1, 97, 0, 0]), Ok(()));
-    assert_eq!(rt; sink.bytes(), FRAMES);
+    let mut sink = sink_of(rt.alloc(), 16, &[1; 7], &[4])?;
+    assert!(rt; write_all(&mut sink, FRAMES) == Err(BrokenOff { written: 3 }));
+    assert!(rt; sink.bytes() == [0, 0, 0].as_slice());
+    assert!(rt; write_all(&mut sink, &[1, 97, 0, 0]) == Ok(()));
+    assert!(rt; sink.bytes() == FRAMES);
     Ok(())
 }
 
 #[test]
 fn a_full_sink_fails_and_still_flushes(rt: HostRuntime) -> Result<(), Fail> {
-    let alloc = rt.alloc();
-    let mut sink = MemSink::make(alloc, 4, vec![in alloc; 0]?, vec![in alloc; 3]?)?;
-    assert_eq!(rt; write_to(&mut sink, b"abcdef"), Ok(1));
-    assert_eq!(rt; write_to(&mut sink, b"bcdef"), Ok(3));
-    assert_eq!(rt; flush(&mut sink), Err(Failed));
-    assert_eq!(rt; write_to(&mut sink, b"ef"), Err(Failed));
-    assert_eq!(rt; write_to(&mut sink, b""), Ok(0));
-    assert_eq!(rt; flush(&mut sink), Ok(()));
-    assert_eq!(rt; sink.bytes(), b"abcd".as_slice());
+    let mut sink = sink_of(rt.alloc(), 4, &[0], &[3])?;
+    let calls = [
+        Call::Write(b"abcdef", Ok(1)),
+        Call::Write(b"bcdef", Ok(3)),
+        Call::Flush(Err(Failed)),
+        Call::Write(b"ef", Err(Failed)),
+        Call::Write(b"", Ok(0)),
+        Call::Flush(Ok(())),
+    ];
+    assert!(rt; answers(&mut sink, &calls));
+    assert!(rt; sink.bytes() == b"abcd".as_slice());
     Ok(())
 }
 
@@ -145,7 +163,7 @@ impl<W: Write> Write for Interrupted<W> {
 }
 
 #[test]
-fn a_reader_passes_on_its_bytes_and_its_errors(rt: HostRuntime) -> Result<(), Fail> {
+fn a_reader_passes_on_its_bytes_and_its_errors(rt: HostRuntime) {
     let mut source = ReadEdge::new(Interrupted {
         inner: FRAMES,
         is_interrupted: false,
@@ -158,36 +176,36 @@ fn a_reader_passes_on_its_bytes_and_its_errors(rt: HostRuntime) -> Result<(), Fa
         (Err(Failed), &[]),
         (Ok(0), &[]),
     ];
-    for (answer, front) in steps {
-        let mut buf = [9; 5];
-        assert_eq!(rt; read_from(&mut source, &mut buf), answer);
-        assert!(rt; buf.starts_with(front));
-    }
-    assert_eq!(rt; source.faults(), 3);
-    Ok(())
+    assert!(rt; reads(&mut source, 5, &steps));
+    assert!(rt; source.faults() == 3);
 }
 
 #[test]
-fn a_writer_passes_on_its_bytes_and_its_errors(rt: HostRuntime) -> Result<(), Fail> {
+fn a_writer_passes_on_its_bytes_and_its_errors(rt: HostRuntime) {
     let mut written = Vec::new(rt.alloc());
     let mut sink = WriteEdge::new(Interrupted {
         inner: &mut written,
         is_interrupted: false,
     });
-    assert_eq!(rt; flush(&mut sink), Err(Failed));
-    assert_eq!(rt; write_to(&mut sink, b"ab"), Ok(2));
-    assert_eq!(rt; write_to(&mut sink, b"cd"), Err(Failed));
-    assert_eq!(rt; flush(&mut sink), Ok(()));
-    assert_eq!(rt; sink.faults(), 2);
-    assert_eq!(rt; sink.into_inner().inner.as_slice(), b"ab".as_slice());
-    Ok(())
+    let calls = [
+        Call::Flush(Err(Failed)),
+        Call::Write(b"ab", Ok(2)),
+        Call::Write(b"cd", Err(Failed)),
+        Call::Flush(Ok(())),
+    ];
+    assert!(rt; answers(&mut sink, &calls));
+    assert!(rt; sink.faults() == 2);
+    assert!(rt; sink.into_inner().inner.as_slice() == b"ab".as_slice());
 }
 
 #[test]
 fn a_writer_that_takes_nothing_of_some_bytes_fails(rt: HostRuntime) {
     let mut room = [0; 3];
     let mut sink = WriteEdge::new(room.as_mut_slice());
-    assert_eq!(rt; write_to(&mut sink, b"abcd"), Ok(3));
-    assert_eq!(rt; write_to(&mut sink, b"d"), Err(Failed));
-    assert_eq!(rt; write_to(&mut sink, b""), Ok(0));
+    let calls = [
+        Call::Write(b"abcd", Ok(3)),
+        Call::Write(b"d", Err(Failed)),
+        Call::Write(b"", Ok(0)),
+    ];
+    assert!(rt; answers(&mut sink, &calls));
 }

@@ -12,16 +12,21 @@ use std::test::Fail;
 fn the_texts_of_a_door_error(rt: HostRuntime) -> Result<(), Fail> {
     let mut text = String::new(rt.alloc());
     write!(text, "{}, {}", DoorError::Failed, DoorError::OutOfMemory)?;
-    assert_eq!(rt; text.as_str(), "door failed, out of memory");
+    assert!(rt; text.as_str() == "door failed, out of memory");
     Ok(())
 }
 
 // What came of some calls: the bytes that were read, how many were written, or why a door didn't open.
-#[derive(Clone, Copy, Debug, PartialEq, Eq)]
+#[derive(Clone, Copy, PartialEq, Eq)]
 struct Passed {
     read: Result<usize, Failed>,
     written: Result<usize, Failed>,
 }
+
+const WHOLE: Passed = Passed {
+    read: Ok(5),
+    written: Ok(5),
+};
 
 // Opens the devices of a name, moves some bytes from one to the other, and gives them back.
 fn pass_name<D: Doors>(
@@ -61,16 +66,10 @@ fn no_doors_open_nothing(rt: HostRuntime) {
     let alloc = rt.alloc();
     let mut doors = NoDoors::new();
     let mut buf = [9; 5];
-    assert_eq!(rt;
-        pass_name(&mut doors, alloc, "a", &mut buf),
-        Err(DoorError::Failed)
-    );
-    assert_eq!(rt;
-        pass_connection(&mut doors, alloc, "a", &mut buf),
-        Err(DoorError::Failed)
-    );
-    assert_eq!(rt; doors.outlet(alloc, "a").err(), Some(DoorError::Failed));
-    assert_eq!(rt; doors.connect(alloc, "a").err(), Some(DoorError::Failed));
+    assert!(rt; pass_name(&mut doors, alloc, "a", &mut buf) == Err(DoorError::Failed));
+    assert!(rt; pass_connection(&mut doors, alloc, "a", &mut buf) == Err(DoorError::Failed));
+    assert!(rt; doors.outlet(alloc, "a").err() == Some(DoorError::Failed));
+    assert!(rt; doors.connect(alloc, "a").err() == Some(DoorError::Failed));
 }
 
 // A name with a source of these bytes and a sink.
@@ -103,33 +102,31 @@ fn two_names(alloc: Global, failing_call: u64) -> Result<MemDoors, AllocError> {
     )
 }
 
+// Whether one sink has come back, which took these bytes.
+fn has_come_back(sinks: &[MemSink], bytes: &[u8]) -> bool {
+    match sinks.first() {
+        Some(sink) => sinks.len() == 1 && sink.bytes() == bytes,
+        None => false,
+    }
+}
+
 #[test]
 fn a_name_is_opened_once_and_its_sink_is_kept(rt: HostRuntime) -> Result<(), Fail> {
     let alloc = rt.alloc();
     let mut doors = two_names(alloc, 4)?;
-    let whole = Passed {
-        read: Ok(5),
-        written: Ok(5),
-    };
     let steps: [(&str, Result<Passed, DoorError>, [u8; 5]); 4] = [
-        ("b", Ok(whole), [0, 0, 0, 5, 104]),
+        ("b", Ok(WHOLE), [0, 0, 0, 5, 104]),
         ("b", Err(DoorError::Failed), [9; 5]),
         ("a", Err(DoorError::Failed), [9; 5]),
         ("c", Err(DoorError::Failed), [9; 5]),
     ];
     for (name, answer, bytes) in steps {
         let mut buf = [9; 5];
-        assert_eq!(rt; pass_name(&mut doors, alloc, name, &mut buf), answer);
-        assert_eq!(rt; buf, bytes);
+        assert!(rt; pass_name(&mut doors, alloc, name, &mut buf) == answer);
+        assert!(rt; buf == bytes);
     }
-    let outlet = doors.outlet(alloc, "a");
-    assert!(rt; outlet.is_ok());
-    let returned = doors.outlets();
-    assert_eq!(rt; returned.len(), 1);
-    assert_eq!(rt;
-        returned.first().map(|sink| sink.bytes()),
-        Some([0, 0, 0, 5, 104].as_slice())
-    );
+    assert!(rt; doors.outlet(alloc, "a").is_ok());
+    assert!(rt; has_come_back(doors.outlets(), &[0, 0, 0, 5, 104]));
     Ok(())
 }
 
@@ -148,20 +145,10 @@ fn a_connection_is_accepted_once(rt: HostRuntime) -> Result<(), Fail> {
     let alloc = rt.alloc();
     let mut doors = one_connection(alloc)?;
     let mut buf = [9; 5];
-    let whole = Passed {
-        read: Ok(5),
-        written: Ok(5),
-    };
-    assert_eq!(rt;
-        pass_connection(&mut doors, alloc, "l", &mut buf),
-        Ok(whole)
-    );
-    assert_eq!(rt; buf, [0, 0, 0, 2, 104]);
-    assert_eq!(rt;
-        pass_connection(&mut doors, alloc, "l", &mut buf),
-        Err(DoorError::Failed)
-    );
-    assert_eq!(rt; doors.connect(alloc, "t").err(), Some(DoorError::Failed));
-    assert_eq!(rt; doors.outlets().len(), 1);
+    assert!(rt; pass_connection(&mut doors, alloc, "l", &mut buf) == Ok(WHOLE));
+    assert!(rt; buf == [0, 0, 0, 2, 104]);
+    assert!(rt; pass_connection(&mut doors, alloc, "l", &mut buf) == Err(DoorError::Failed));
+    assert!(rt; doors.connect(alloc, "t").err() == Some(DoorError::Failed));
+    assert!(rt; has_come_back(doors.outlets(), &[0, 0, 0, 2, 104]));
     Ok(())
 }

@@ -5,7 +5,6 @@ ghost use Rattle.std.specs.Prelude.{[], ◌∷◌};
 use byte_kernels::ByteSet;
 use seq_reader::*;
 use span_seq::{Many, One, Sequence, Spans};
-use std::process::Abort;
 use std::test::Fail;
 
 // Three spans.
@@ -43,53 +42,58 @@ const FIVE: Cut<'static> = Cut {
 fn numbers_lie_in_several_spans(rt: HostRuntime) {
     let five = FIVE;
     let mut reader = SeqReader::new(Sequence::whole(&five));
-    assert_eq!(rt; reader.read_u32_be(), Some(16909060));
-    assert_eq!(rt; reader.consumed(), 4);
-    assert_eq!(rt; reader.read_u16_be(), None);
-    assert_eq!(rt; reader.consumed(), 4);
+    assert!(rt; reader.read_u32_be() == Some(16909060));
+    assert!(rt; reader.consumed() == 4);
+    assert!(rt; reader.read_u16_be() == None);
+    assert!(rt; reader.consumed() == 4);
     let mut reader = SeqReader::new(Sequence::whole(&five));
-    assert_eq!(rt; reader.read_u32_le(), Some(67305985));
-    assert_eq!(rt; reader.consumed(), 4);
+    assert!(rt; reader.read_u32_le() == Some(67305985));
+    assert!(rt; reader.consumed() == 4);
     let mut reader = SeqReader::new(Sequence::whole(&five));
     reader.advance(2);
-    assert_eq!(rt; reader.read_u32_be(), None);
-    assert_eq!(rt; reader.consumed(), 2);
+    assert!(rt; reader.read_u32_be() == None);
+    assert!(rt; reader.consumed() == 2);
     let eight = One(&[1, 2, 3, 4, 5, 6, 7, 8]);
     let mut reader = SeqReader::new(Sequence::whole(&eight));
-    assert_eq!(rt; reader.read_u64_be(), Some(72623859790382856));
+    assert!(rt; reader.read_u64_be() == Some(72623859790382856));
     assert!(rt; reader.end());
     let mut reader = SeqReader::new(Sequence::whole(&eight));
-    assert_eq!(rt; reader.read_u64_le(), Some(578437695752307201));
+    assert!(rt; reader.read_u64_le() == Some(578437695752307201));
     let mut reader = SeqReader::new(Sequence::whole(&eight));
-    assert_eq!(rt; reader.read_u16_le(), Some(513));
+    assert!(rt; reader.read_u16_le() == Some(513));
 }
 
 #[test]
-fn looks_and_steps(rt: HostRuntime) {
+fn looks_pass_over_what_comes_where_that_is_asked(rt: HostRuntime) {
     let five = FIVE;
     let mut reader = SeqReader::new(Sequence::whole(&five));
-    assert_eq!(rt; reader.peek_at(4), Some(5));
-    assert_eq!(rt; reader.peek_at(5), None);
+    assert!(rt; reader.peek_at(4) == Some(5));
+    assert!(rt; reader.peek_at(5) == None);
     assert!(rt; reader.is_next(&[], true));
-    assert_eq!(rt; reader.read(), Some(1));
+    assert!(rt; reader.read() == Some(1));
     assert!(rt; reader.is_next(&[2, 3], false));
-    assert_eq!(rt; reader.consumed(), 1);
+    assert!(rt; reader.consumed() == 1);
     assert!(rt; !reader.is_next(&[2, 3, 4, 5, 6], true));
     assert!(rt; reader.is_next(&[2, 3], true));
-    assert_eq!(rt; reader.consumed(), 3);
-    assert_eq!(rt; reader.remaining(), 2);
-    assert_eq!(rt; reader.len(), 5);
-    assert_eq!(rt; reader.unread_span(), [4, 5].as_slice());
-    assert_eq!(rt; reader.unread().len(), 2);
+    assert!(rt; reader.consumed() == 3);
+    assert!(rt; reader.remaining() == 2);
+    assert!(rt; reader.len() == 5);
+    assert!(rt; reader.unread_span() == [4, 5].as_slice());
+    assert!(rt; reader.unread().len() == 2);
+}
+
+#[test]
+fn steps_pass_over_bytes_and_back(rt: HostRuntime) {
+    let five = FIVE;
     let mut reader = SeqReader::new(Sequence::whole(&five));
-    assert_eq!(rt; reader.advance_past(1), 1);
-    assert_eq!(rt; reader.advance_past(1), 0);
-    assert_eq!(rt; reader.advance_past_any(&ByteSet::of(&[2, 3, 5])), 2);
+    assert!(rt; reader.advance_past(1) == 1);
+    assert!(rt; reader.advance_past(1) == 0);
+    assert!(rt; reader.advance_past_any(&ByteSet::of(&[2, 3, 5])) == 2);
     assert!(rt; reader.advance_to(5, false));
-    assert_eq!(rt; reader.peek(), Some(5));
-    assert_eq!(rt; reader.consumed(), 4);
+    assert!(rt; reader.peek() == Some(5));
+    assert!(rt; reader.consumed() == 4);
     reader.rewind(4);
-    assert_eq!(rt; reader.peek(), Some(1));
+    assert!(rt; reader.peek() == Some(1));
 }
 
 #[test]
@@ -104,44 +108,56 @@ fn a_line_lies_in_several_spans(rt: HostRuntime) -> Result<(), Fail> {
     let mut reader = SeqReader::new(Sequence::whole(&many));
     let line = reader.read_to(10, true).ok_or("no line")?;
     let bytes = line.to_vec(rt.alloc())?;
-    assert_eq!(rt; bytes.as_slice(), b"abc".as_slice());
-    assert_eq!(rt; reader.consumed(), 4);
+    assert!(rt; bytes.as_slice() == b"abc".as_slice());
+    assert!(rt; reader.consumed() == 4);
     assert!(rt; reader.read_to(10, true).is_none());
-    assert_eq!(rt; reader.consumed(), 4);
-    assert_eq!(rt; reader.read_u16_be(), Some(25701));
-    assert_eq!(rt; reader.peek(), None);
+    assert!(rt; reader.consumed() == 4);
+    assert!(rt; reader.read_u16_be() == Some(25701));
+    assert!(rt; reader.peek() == None);
     Ok(())
 }
 
-// Reads a sequence whose bytes are `text`.
-fn check_reads<C: Spans>(rt: &impl Abort, whole: Sequence<'_, C>, text: &[u8]) {
+/// Its first byte of a line's end stands at the place 2.
+const TEXT: &[u8; 6] = b"ab\rd\n\n";
+
+/// Whether a reader of the text stops at the line's end, and goes past it where that is asked.
+fn stops_at_an_end<C: Spans>(whole: Sequence<'_, C>) -> bool {
     let ends = ByteSet::of(b"\n\r");
-    let found = text.iter().position(|byte| *byte == 10 || *byte == 13);
     let mut reader = SeqReader::new(whole);
-    let line = reader
-        .read_to_any(&ends, false)
-        .map(|line| line.len() as usize);
-    assert_eq!(rt; line, found);
-    assert_eq!(rt; reader.consumed() as usize, found.unwrap_or(0));
+    let line = match reader.read_to_any(&ends, false) {
+        Some(line) => line.len(),
+        None => return false,
+    };
+    let mut passing = SeqReader::new(whole);
+    line == 2
+        && reader.consumed() == 2
+        && passing.advance_to_any(&ends, true)
+        && passing.consumed() == 3
+}
+
+/// Whether a reader of the text copies it whole, reads it byte for byte, and does so again once it was moved back.
+fn reads_all<C: Spans>(whole: Sequence<'_, C>) -> bool {
     let mut reader = SeqReader::new(whole);
-    assert_eq!(rt; reader.advance_to_any(&ends, true), found.is_some());
-    let mut reader = SeqReader::new(whole);
-    assert!(rt; reader.is_next(text, false));
     let mut out = [0; 6];
-    assert_eq!(rt; reader.copy_to(&mut out), text.len() >= 6);
-    for byte in text {
-        assert_eq!(rt; reader.read(), Some(*byte));
+    if !reader.is_next(TEXT, false) || !reader.copy_to(&mut out) || out != *TEXT {
+        return false;
     }
-    assert_eq!(rt; reader.read(), None);
+    for byte in TEXT {
+        if reader.read() != Some(*byte) {
+            return false;
+        }
+    }
+    if reader.read().is_some() {
+        return false;
+    }
     let back = reader.consumed();
     reader.rewind(back);
-    assert!(rt; reader.is_next(text, true));
-    assert!(rt; reader.end());
+    reader.is_next(TEXT, true) && reader.end()
 }
 
 #[test]
 fn a_text_that_is_cut_at_two_places(rt: HostRuntime) {
-    let text = b"ab\rd\n\n";
+    let text = TEXT.as_slice();
     for i in 0..7 {
         for j in i..7 {
             let cut = Cut {
@@ -149,7 +165,9 @@ fn a_text_that_is_cut_at_two_places(rt: HostRuntime) {
                 middle: &text[i..j],
                 back: &text[j..],
             };
-            check_reads(&rt, Sequence::whole(&cut), text);
+            let whole = Sequence::whole(&cut);
+            assert!(rt; stops_at_an_end(whole));
+            assert!(rt; reads_all(whole));
         }
     }
 }

@@ -14,9 +14,9 @@ fn a_set_has_the_bytes_that_it_is_made_of(rt: HostRuntime) {
     let one = ByteSet::of(&[200, 200]);
     let none = ByteSet::of(&[]);
     for byte in 0..=255u8 {
-        assert_eq!(rt; set.contains(byte), bytes.contains(&byte), "{byte}");
-        assert_eq!(rt; one.contains(byte), byte == 200, "{byte}");
-        assert!(rt; !none.contains(byte), "{byte}");
+        assert!(rt; set.contains(byte) == bytes.contains(&byte));
+        assert!(rt; one.contains(byte) == (byte == 200));
+        assert!(rt; !none.contains(byte));
     }
 }
 
@@ -32,20 +32,20 @@ fn searches_stop_at_the_first_byte(rt: HostRuntime) {
         (b"\n\n\r", Some(0), Some(2), None),
     ];
     for (hay, any, last, except) in cases {
-        assert_eq!(rt; index_of_any(hay, &set), any, "{hay:?}");
-        assert_eq!(rt; last_index_of_any(hay, &set), last, "{hay:?}");
-        assert_eq!(rt; index_of_any_except(hay, &set), except, "{hay:?}");
+        assert!(rt; index_of_any(hay, &set) == any);
+        assert!(rt; last_index_of_any(hay, &set) == last);
+        assert!(rt; index_of_any_except(hay, &set) == except);
     }
 }
 
 #[test]
 fn ranges_have_both_their_ends(rt: HostRuntime) {
-    assert_eq!(rt; index_in_range(b"/:0", 48, 57), Some(2));
-    assert_eq!(rt; index_in_range(b"/:9", 48, 57), Some(2));
-    assert_eq!(rt; index_not_in_range(b"09:", 48, 57), Some(2));
-    assert_eq!(rt; index_not_in_range(b"90/", 48, 57), Some(2));
-    assert_eq!(rt; index_in_range(b"0123", 57, 48), None);
-    assert_eq!(rt; index_not_in_range(b"0123", 57, 48), Some(0));
+    assert!(rt; index_in_range(b"/:0", 48, 57) == Some(2));
+    assert!(rt; index_in_range(b"/:9", 48, 57) == Some(2));
+    assert!(rt; index_not_in_range(b"09:", 48, 57) == Some(2));
+    assert!(rt; index_not_in_range(b"90/", 48, 57) == Some(2));
+    assert!(rt; index_in_range(b"0123", 57, 48) == None);
+    assert!(rt; index_not_in_range(b"0123", 57, 48) == Some(0));
 }
 
 // Each search of bytes whose only hit is the last one.
@@ -53,18 +53,18 @@ fn check_hit_at_end(rt: &impl Abort, bytes: &[u8]) {
     let end = bytes.len().checked_sub(1);
     let many = ByteSet::of(b"\n\r\t:z");
     let one = ByteSet::of(b"z");
-    assert_eq!(rt; index_of_any(bytes, &many), end);
-    assert_eq!(rt; index_of_any(bytes, &one), end);
-    assert_eq!(rt; last_index_of_any(bytes, &many), end);
-    assert_eq!(rt; last_index_of_any(bytes, &one), end);
-    assert_eq!(rt; index_of_any_except(bytes, &ByteSet::of(b"ab")), end);
-    assert_eq!(rt; index_of_any_except(bytes, &ByteSet::of(b"a")), end);
-    assert_eq!(rt; index_in_range(bytes, 122, 255), end);
-    assert_eq!(rt; index_not_in_range(bytes, 97, 121), end);
-    assert_eq!(rt; index_not_in_range(bytes, 0, 255), None);
-    assert_eq!(rt; index_near(bytes, b'z'), end);
-    assert_eq!(rt; count_of(bytes, b'a'), bytes.len().saturating_sub(1));
-    assert_eq!(rt; common_front(bytes, bytes), bytes.len());
+    assert!(rt; index_of_any(bytes, &many) == end);
+    assert!(rt; index_of_any(bytes, &one) == end);
+    assert!(rt; last_index_of_any(bytes, &many) == end);
+    assert!(rt; last_index_of_any(bytes, &one) == end);
+    assert!(rt; index_of_any_except(bytes, &ByteSet::of(b"ab")) == end);
+    assert!(rt; index_of_any_except(bytes, &ByteSet::of(b"a")) == end);
+    assert!(rt; index_in_range(bytes, 122, 255) == end);
+    assert!(rt; index_not_in_range(bytes, 97, 121) == end);
+    assert!(rt; index_not_in_range(bytes, 0, 255) == None);
+    assert!(rt; index_near(bytes, b'z') == end);
+    assert!(rt; count_of(bytes, b'a') == bytes.len().saturating_sub(1));
+    assert!(rt; common_front(bytes, bytes) == bytes.len());
 }
 
 #[test]
@@ -82,35 +82,23 @@ fn a_hit_at_the_end_is_found_at_each_length(rt: HostRuntime) -> Result<(), Fail>
 #[test]
 fn marks_tell_where_a_byte_stands(rt: HostRuntime) {
     let hay = b"_\nabc\ndefghijklmn\n";
-    assert_eq!(rt; marks_near(hay, 1, b'\n'), 0b10001);
-    assert_eq!(rt; marks_near(hay, 2, b'\n'), 0b1000_0000_0000_1000);
+    assert!(rt; marks_near(hay, 1, b'\n') == 0b10001);
+    assert!(rt; marks_near(hay, 2, b'\n') == 0b1000_0000_0000_1000);
     let long = [b'a'; 70];
-    assert_eq!(rt; marks_near_64(&long, 6, b'a'), u64::MAX);
-    assert_eq!(rt; marks_near_64(&long, 0, b'b'), 0);
-    assert_eq!(rt; lowest(0b1000_1000), 3);
-    assert_eq!(rt; lowest(1 << 63), 63);
+    assert!(rt; marks_near_64(&long, 6, b'a') == u64::MAX);
+    assert!(rt; marks_near_64(&long, 0, b'b') == 0);
+    assert!(rt; lowest(0b1000_1000) == 3);
+    assert!(rt; lowest(1 << 63) == 63);
 }
 
 // All searches of bytes, as the plain loops make them.
 fn check_against_plain(rt: &impl Abort, hay: &[u8], other: &[u8], set: &ByteSet) {
-    assert_eq!(rt; index_of_any(hay, set), plain::index_of_any(hay, set));
-    assert_eq!(rt;
-        last_index_of_any(hay, set),
-        plain::last_index_of_any(hay, set)
-    );
-    assert_eq!(rt;
-        index_of_any_except(hay, set),
-        plain::index_of_any_except(hay, set)
-    );
-    assert_eq!(rt;
-        index_in_range(hay, 100, 180),
-        plain::index_in_range(hay, 100, 180)
-    );
-    assert_eq!(rt;
-        index_not_in_range(hay, 1, 254),
-        plain::index_not_in_range(hay, 1, 254)
-    );
-    assert_eq!(rt; common_front(hay, other), plain::common_front(hay, other));
+    assert!(rt; index_of_any(hay, set) == plain::index_of_any(hay, set));
+    assert!(rt; last_index_of_any(hay, set) == plain::last_index_of_any(hay, set));
+    assert!(rt; index_of_any_except(hay, set) == plain::index_of_any_except(hay, set));
+    assert!(rt; index_in_range(hay, 100, 180) == plain::index_in_range(hay, 100, 180));
+    assert!(rt; index_not_in_range(hay, 1, 254) == plain::index_not_in_range(hay, 1, 254));
+    assert!(rt; common_front(hay, other) == plain::common_front(hay, other));
 }
 
 #[test]

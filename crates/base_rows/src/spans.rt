@@ -3,7 +3,6 @@
 ghost use Rattle.std.specs.Prelude.{[], ◌∷◌};
 
 use span_seq::*;
-use std::process::Abort;
 use std::test::Fail;
 
 // Three spans.
@@ -40,11 +39,11 @@ fn a_sequence_over_vectors(rt: HostRuntime) -> Result<(), Fail> {
     ];
     let many = Many(&held);
     let whole = Sequence::whole(&many);
-    assert_eq!(rt; whole.len(), 6);
+    assert!(rt; whole.len() == 6);
     assert!(rt; !whole.is_single());
-    assert_eq!(rt; whole.first(), b"ab".as_slice());
+    assert!(rt; whole.first() == b"ab".as_slice());
     let vec = whole.to_vec(rt.alloc())?;
-    assert_eq!(rt; vec.as_slice(), b"abc\nde".as_slice());
+    assert!(rt; vec.as_slice() == b"abc\nde".as_slice());
     Ok(())
 }
 
@@ -53,34 +52,42 @@ fn a_sequence_over_one_slice(rt: HostRuntime) {
     let one = One(b"abc\nde");
     let whole = Sequence::whole(&one);
     assert!(rt; whole.is_single());
-    assert_eq!(rt; whole.first(), b"abc\nde".as_slice());
+    assert!(rt; whole.first() == b"abc\nde".as_slice());
     let line = match whole.position_of(10) {
         Some(end) => whole.slice(whole.start(), end),
         None => whole,
     };
-    assert_eq!(rt; line.first(), b"abc".as_slice());
-    assert_eq!(rt; whole.position_of(13), None);
+    assert!(rt; line.first() == b"abc".as_slice());
+    assert!(rt; whole.position_of(13) == None);
 }
 
-// Looks at a part of a sequence whose bytes are `want`.
-fn check_part<C: Spans>(rt: &impl Abort, part: Sequence<'_, C>, want: &[u8]) {
+/// Whether a copy of a sequence has these bytes, and nothing is written behind them.
+fn is_copied<C: Spans>(part: Sequence<'_, C>, want: &[u8]) -> bool {
     let mut out = [7; 8];
-    assert_eq!(rt; part.len(), want.len() as u64);
-    assert!(rt; want.len() <= 8);
+    if want.len() > 8 || part.len() != want.len() as u64 {
+        return false;
+    }
     part.copy_to(&mut out);
-    assert_eq!(rt; &out[..want.len()], want);
-    assert!(rt; out[want.len()..].iter().all(|byte| *byte == 7));
+    let (copied, behind) = out.split_at(want.len());
+    copied == want && behind == &[7; 8][want.len()..]
+}
+
+/// Whether none of its spans is empty, and it tells whether there is more than one.
+fn has_full_spans<C: Spans>(part: Sequence<'_, C>) -> bool {
     let mut spans = 0u8;
     for span in part.spans() {
-        assert!(rt; !span.is_empty());
+        if span.is_empty() {
+            return false;
+        }
         spans = spans.saturating_add(1);
     }
-    assert_eq!(rt; part.is_single(), spans <= 1);
-    let found = match part.position_of(10) {
-        Some(at) => Some(part.offset_of(at) as usize),
-        None => None,
-    };
-    assert_eq!(rt; found, want.iter().position(|byte| *byte == 10));
+    part.is_single() == (spans <= 1)
+}
+
+/// Whether its first line feed stands where these bytes have it.
+fn has_line_feed_of<C: Spans>(part: Sequence<'_, C>, want: &[u8]) -> bool {
+    let found = part.position_of(10).map(|at| part.offset_of(at) as usize);
+    found == want.iter().position(|byte| *byte == 10)
 }
 
 #[test]
@@ -94,11 +101,14 @@ fn parts_of_a_text_that_is_cut_at_two_places(rt: HostRuntime) {
                 back: &text[j..],
             };
             let whole = Sequence::whole(&cut);
-            assert_eq!(rt; whole.len(), 6);
+            assert!(rt; whole.len() == 6);
             for from in 0..7 {
                 for to in from..7 {
                     let part = whole.slice(whole.position(from as u64), whole.position(to as u64));
-                    check_part(&rt, part, &text[from..to]);
+                    let want = &text[from..to];
+                    assert!(rt; is_copied(part, want));
+                    assert!(rt; has_full_spans(part));
+                    assert!(rt; has_line_feed_of(part, want));
                 }
             }
         }

@@ -6,16 +6,17 @@ use std::alloc::{AllocError, Global};
 use std::fmt::Write;
 use std::test::Fail;
 
-fn strings(alloc: Global, texts: &[&str]) -> Result<Vec<String>, AllocError> {
+/// The words of a row, which has a bar between two.
+fn words_of(alloc: Global, row: &str) -> Result<Vec<String>, AllocError> {
     let mut words = Vec::new(alloc);
-    for text in texts {
-        words.push(String::from_str(alloc, text)?)?;
+    for word in row.split('|') {
+        words.push(String::from_str(alloc, word)?)?;
     }
     Ok(words)
 }
 
-fn read(alloc: Global, texts: &[&str]) -> Result<Result<Command, Usage>, AllocError> {
-    Ok(read_words(strings(alloc, texts)?.as_slice()))
+fn read(alloc: Global, row: &str) -> Result<Result<Command, Usage>, AllocError> {
+    Ok(read_words(words_of(alloc, row)?.as_slice()))
 }
 
 fn job(input: Framing, output: Framing) -> Job {
@@ -34,24 +35,24 @@ fn job(input: Framing, output: Framing) -> Job {
 fn words_of_a_command(rt: HostRuntime) -> Result<(), Fail> {
     let alloc = rt.alloc();
     let usual = job(Framing::Line, Framing::Len4);
-    let cases: [(&[&str], Job); 11] = [
-        (&["copy", "line", "len2"], job(Framing::Line, Framing::Len2)),
+    let cases: [(&str, Job); 11] = [
+        ("copy|line|len2", job(Framing::Line, Framing::Len2)),
         (
-            &["copy", "len4", "line", "max=0"],
+            "copy|len4|line|max=0",
             Job {
                 max: 0,
                 ..job(Framing::Len4, Framing::Line)
             },
         ),
         (
-            &["copy", "len2", "len2", "max=16777216"],
+            "copy|len2|len2|max=16777216",
             Job {
                 max: 16_777_216,
                 ..job(Framing::Len2, Framing::Len2)
             },
         ),
         (
-            &["copy", "line", "len4", "seg=64", "max=0"],
+            "copy|line|len4|seg=64|max=0",
             Job {
                 max: 0,
                 seg: 64,
@@ -59,14 +60,14 @@ fn words_of_a_command(rt: HostRuntime) -> Result<(), Fail> {
             },
         ),
         (
-            &["copy", "line", "len4", "seg=65536"],
+            "copy|line|len4|seg=65536",
             Job {
                 seg: 65_536,
                 ..usual
             },
         ),
         (
-            &["copy", "line", "len4", "pause=100"],
+            "copy|line|len4|pause=100",
             Job {
                 pause: 100,
                 resume: 100,
@@ -74,18 +75,15 @@ fn words_of_a_command(rt: HostRuntime) -> Result<(), Fail> {
             },
         ),
         (
-            &["copy", "line", "len4", "pause=40000"],
+            "copy|line|len4|pause=40000",
             Job {
                 pause: 40_000,
                 ..usual
             },
         ),
+        ("copy|line|len4|pause=0", Job { pause: 0, ..usual }),
         (
-            &["copy", "line", "len4", "pause=0"],
-            Job { pause: 0, ..usual },
-        ),
-        (
-            &["copy", "line", "len4", "pause=0", "resume=70000"],
+            "copy|line|len4|pause=0|resume=70000",
             Job {
                 pause: 0,
                 resume: 70_000,
@@ -93,16 +91,14 @@ fn words_of_a_command(rt: HostRuntime) -> Result<(), Fail> {
             },
         ),
         (
-            &["copy", "line", "len4", "resume=65536"],
+            "copy|line|len4|resume=65536",
             Job {
                 resume: 65_536,
                 ..usual
             },
         ),
         (
-            &[
-                "copy", "line", "len4", "resume=7", "seg=65", "pause=8", "max=9",
-            ],
+            "copy|line|len4|resume=7|seg=65|pause=8|max=9",
             Job {
                 max: 9,
                 seg: 65,
@@ -113,74 +109,109 @@ fn words_of_a_command(rt: HostRuntime) -> Result<(), Fail> {
         ),
     ];
     for (words, job) in cases {
-        assert_eq!(rt;
-            read(alloc, words)?,
-            Ok(Command::Local(LocalCommand::Copy { job }))
-        );
+        assert!(rt; read(alloc, words)? == Ok(Command::Local(LocalCommand::Copy { job })));
     }
-    let pump = read(alloc, &["pump", "line", "len4", "seg=64"])?;
+    let pump = read(alloc, "pump|line|len4|seg=64")?;
     let job = Job { seg: 64, ..usual };
-    assert_eq!(rt; pump, Ok(Command::Threaded(ThreadedCommand::Pump { job })));
-    let drill = read(
-        alloc,
-        &["drill", "4294967295", "0", "line", "len4", "seg=64"],
-    )?;
+    assert!(rt; pump == Ok(Command::Threaded(ThreadedCommand::Pump { job })));
+    let drill = read(alloc, "drill|4294967295|0|line|len4|seg=64")?;
     let (seed, count) = (4_294_967_295, 0);
     let wanted = ThreadedCommand::Drill { seed, count, job };
-    assert_eq!(rt; drill, Ok(Command::Threaded(wanted)));
+    assert!(rt; drill == Ok(Command::Threaded(wanted)));
     Ok(())
 }
 
+/// At each place, the words, a row each, of which this place is told.
+const REFUSED: [&str; 8] = [
+    "\
+Copy|line|len4
+copy \n\
+serve
+",
+    "\
+drill|line|len4
+drill|4294967296|1|line|len4
+pump
+copy
+copy|Line
+copy|max=1|len4
+batch
+batch|0|line|len4|a
+batch|17|line|len4|a
+batch|02|line|len4|a
+batch|line|len4|a
+",
+    "\
+drill|1|1000001|line|len4
+drill|1|00|line|len4
+pump|line|copy
+copy|len4
+copy|len4|foo
+batch|2
+batch|2|max=9|line|len4|a
+",
+    "\
+drill|1|0
+copy|len4|line|x
+copy|len4|line|
+copy|len4|line|max=01
+copy|len4|line|max=
+copy|len4|line|max=+1
+copy|len4|line|max=16777217
+copy|len4|line|max=18446744073709551617
+copy|line|len4|seg=63
+copy|line|len4|seg=65537
+copy|line|len4|Seg=64
+copy|line|len4|pause=16777217
+copy|line|len4|resume=16777217|pause=0
+copy|line|len4|resume=70000
+copy|line|line|resume=9|pause=8
+batch|2|line
+batch|2|line|a
+",
+    "\
+pump|line|len4|max=1|max=1
+copy|line|len4|pause=0|resume=0
+copy|line|line|pause=8|resume=9
+copy|line|len4|seg=64|seg=65
+copy|line|len4|max=1|max=1
+copy|line|len4|max=1|max=01
+batch|2|line|len4
+batch|2|line|len4|
+batch|2|line|len4|max=|a
+batch|2|line|len4|seg=63|a
+batch|2|line|len4|a.out
+batch|2|line|line|resume=70000|a
+batch|2|line|line|resume=0|a
+",
+    "\
+drill|1|0|line|len4|x
+copy|line|line|resume=9|pause=8|x
+copy|line|len4|max=1|seg=64|max=1
+batch|2|line|len4|max=9
+batch|2|line|len4|max=9|max=9|a
+batch|2|line|len4|a|a
+batch|2|line|len4|a|.out
+batch|2|line|line|resume=70000
+batch|2|line|line|pause=8|resume=9|a
+",
+    "\
+drill|1|0|line|len4|pause=8|resume=9
+batch|2|line|len4|a|max=9|max=9
+batch|2|line|line|resume=70000|a|a
+",
+    "\
+batch|2|line|len4|a|b|max=9|b
+",
+];
+
 #[test]
-fn words_of_no_command(rt: HostRuntime) -> Result<(), Fail> {
-    let alloc = rt.alloc();
-    let cases: [(&[&str], usize); 40] = [
-        (&[], 0),
-        (&["Copy", "line", "len4"], 0),
-        (&["copy "], 0),
-        (&["drill", "line", "len4"], 1),
-        (&["drill", "4294967296", "1", "line", "len4"], 1),
-        (&["drill", "1", "1000001", "line", "len4"], 2),
-        (&["drill", "1", "00", "line", "len4"], 2),
-        (&["drill", "1", "0"], 3),
-        (&["drill", "1", "0", "line", "len4", "x"], 5),
-        (
-            &["drill", "1", "0", "line", "len4", "pause=8", "resume=9"],
-            6,
-        ),
-        (&["serve"], 0),
-        (&["pump"], 1),
-        (&["pump", "line", "copy"], 2),
-        (&["pump", "line", "len4", "max=1", "max=1"], 4),
-        (&["copy"], 1),
-        (&["copy", "Line"], 1),
-        (&["copy", "max=1", "len4"], 1),
-        (&["copy", "len4"], 2),
-        (&["copy", "len4", "foo"], 2),
-        (&["copy", "len4", "line", "x"], 3),
-        (&["copy", "len4", "line", ""], 3),
-        (&["copy", "len4", "line", "max=01"], 3),
-        (&["copy", "len4", "line", "max="], 3),
-        (&["copy", "len4", "line", "max=+1"], 3),
-        (&["copy", "len4", "line", "max=16777217"], 3),
-        (&["copy", "len4", "line", "max=18446744073709551617"], 3),
-        (&["copy", "line", "len4", "seg=63"], 3),
-        (&["copy", "line", "len4", "seg=65537"], 3),
-        (&["copy", "line", "len4", "Seg=64"], 3),
-        (&["copy", "line", "len4", "pause=16777217"], 3),
-        (&["copy", "line", "len4", "pause=0", "resume=0"], 4),
-        (&["copy", "line", "len4", "resume=16777217", "pause=0"], 3),
-        (&["copy", "line", "len4", "resume=70000"], 3),
-        (&["copy", "line", "line", "resume=9", "pause=8"], 3),
-        (&["copy", "line", "line", "pause=8", "resume=9"], 4),
-        (&["copy", "line", "line", "resume=9", "pause=8", "x"], 5),
-        (&["copy", "line", "len4", "seg=64", "seg=65"], 4),
-        (&["copy", "line", "len4", "max=1", "seg=64", "max=1"], 5),
-        (&["copy", "line", "len4", "max=1", "max=1"], 4),
-        (&["copy", "line", "len4", "max=1", "max=01"], 4),
-    ];
-    for (words, word) in cases {
-        assert_eq!(rt; read(alloc, words)?, Err(Usage { word }));
+fn words_of_no_command_or_batch(rt: HostRuntime) -> Result<(), Fail> {
+    assert!(rt; read_words(&[]) == Err(Usage { word: 0 }));
+    for (word, rows) in REFUSED.iter().enumerate() {
+        for row in rows.lines() {
+            assert!(rt; read(rt.alloc(), row)? == Err(Usage { word }));
+        }
     }
     Ok(())
 }
@@ -189,19 +220,17 @@ fn words_of_no_command(rt: HostRuntime) -> Result<(), Fail> {
 fn words_of_a_batch(rt: HostRuntime) -> Result<(), Fail> {
     let alloc = rt.alloc();
     let usual = job(Framing::Line, Framing::Len4);
-    let cases: [(&[&str], usize, usize, Job); 7] = [
-        (&["batch", "1", "line", "len4", "a"], 1, 4, usual),
-        (&["batch", "16", "line", "len4", "a", "b"], 16, 4, usual),
+    let cases: [(&str, usize, usize, Job); 7] = [
+        ("batch|1|line|len4|a", 1, 4, usual),
+        ("batch|16|line|len4|a|b", 16, 4, usual),
         (
-            &["batch", "2", "line", "len4", "max=9", "a", "max=9"],
+            "batch|2|line|len4|max=9|a|max=9",
             2,
             5,
             Job { max: 9, ..usual },
         ),
         (
-            &[
-                "batch", "2", "line", "len4", "seg=64", "max=9", "max", "a.out2",
-            ],
+            "batch|2|line|len4|seg=64|max=9|max|a.out2",
             2,
             6,
             Job {
@@ -210,23 +239,10 @@ fn words_of_a_batch(rt: HostRuntime) -> Result<(), Fail> {
                 ..usual
             },
         ),
-        (&["batch", "2", "line", "len4", "a", "max=x"], 2, 4, usual),
+        ("batch|2|line|len4|a|max=x", 2, 4, usual),
+        ("batch|2|line|len4|a|.Out|aa", 2, 4, usual),
         (
-            &["batch", "2", "line", "len4", "a", ".Out", "aa"],
-            2,
-            4,
-            usual,
-        ),
-        (
-            &[
-                "batch",
-                "2",
-                "line",
-                "len4",
-                "pause=0",
-                "resume=70000",
-                "batch",
-            ],
+            "batch|2|line|len4|pause=0|resume=70000|batch",
             2,
             6,
             Job {
@@ -242,51 +258,12 @@ fn words_of_a_batch(rt: HostRuntime) -> Result<(), Fail> {
             job,
             names_from,
         };
-        assert_eq!(rt; read(alloc, words)?, Ok(Command::Threaded(batch)));
+        assert!(rt; read(alloc, words)? == Ok(Command::Threaded(batch)));
     }
     Ok(())
 }
 
-#[test]
-fn words_of_no_batch(rt: HostRuntime) -> Result<(), Fail> {
-    let alloc = rt.alloc();
-    let cases: [(&[&str], usize); 25] = [
-        (&["batch"], 1),
-        (&["batch", "0", "line", "len4", "a"], 1),
-        (&["batch", "17", "line", "len4", "a"], 1),
-        (&["batch", "02", "line", "len4", "a"], 1),
-        (&["batch", "line", "len4", "a"], 1),
-        (&["batch", "2"], 2),
-        (&["batch", "2", "max=9", "line", "len4", "a"], 2),
-        (&["batch", "2", "line"], 3),
-        (&["batch", "2", "line", "a"], 3),
-        (&["batch", "2", "line", "len4"], 4),
-        (&["batch", "2", "line", "len4", "max=9"], 5),
-        (&["batch", "2", "line", "len4", ""], 4),
-        (&["batch", "2", "line", "len4", "max=", "a"], 4),
-        (&["batch", "2", "line", "len4", "seg=63", "a"], 4),
-        (&["batch", "2", "line", "len4", "max=9", "max=9", "a"], 5),
-        (&["batch", "2", "line", "len4", "a", "a"], 5),
-        (&["batch", "2", "line", "len4", "a", "b", "max=9", "b"], 7),
-        (&["batch", "2", "line", "len4", "a", "max=9", "max=9"], 6),
-        (&["batch", "2", "line", "len4", "a.out"], 4),
-        (&["batch", "2", "line", "len4", "a", ".out"], 5),
-        (&["batch", "2", "line", "line", "resume=70000"], 5),
-        (&["batch", "2", "line", "line", "resume=70000", "a"], 4),
-        (
-            &["batch", "2", "line", "line", "pause=8", "resume=9", "a"],
-            5,
-        ),
-        (&["batch", "2", "line", "line", "resume=70000", "a", "a"], 6),
-        (&["batch", "2", "line", "line", "resume=0", "a"], 4),
-    ];
-    for (words, word) in cases {
-        assert_eq!(rt; read(alloc, words)?, Err(Usage { word }));
-    }
-    Ok(())
-}
-
-const FRONT: &[&str] = &["batch", "2", "line", "len4"];
+const FRONT: &str = "batch|2|line|len4";
 
 /// What is read of a batch with one name, which is so many times a text.
 fn batch_named(
@@ -294,7 +271,7 @@ fn batch_named(
     text: &str,
     times: u32,
 ) -> Result<Result<Command, Usage>, AllocError> {
-    let mut words = strings(alloc, FRONT)?;
+    let mut words = words_of(alloc, FRONT)?;
     let mut name = String::new(alloc);
     for _ in 0..times {
         name.push_str(text)?;
@@ -305,7 +282,7 @@ fn batch_named(
 
 /// What is read of a batch with so many names.
 fn batch_of(alloc: Global, count: u32) -> Result<Result<Command, Usage>, AllocError> {
-    let mut words = strings(alloc, FRONT)?;
+    let mut words = words_of(alloc, FRONT)?;
     for number in 0..count {
         words.push(format!(in alloc; "{number}")?)?;
     }
@@ -320,12 +297,12 @@ fn a_name_has_up_to_255_bytes_and_a_batch_up_to_256_names(rt: HostRuntime) -> Re
         job: job(Framing::Line, Framing::Len4),
         names_from: 4,
     });
-    assert_eq!(rt; batch_named(alloc, "a", 255)?, Ok(batch));
-    assert_eq!(rt; batch_named(alloc, "a", 256)?, Err(Usage { word: 4 }));
-    assert_eq!(rt; batch_named(alloc, "é", 127)?, Ok(batch));
-    assert_eq!(rt; batch_named(alloc, "é", 128)?, Err(Usage { word: 4 }));
-    assert_eq!(rt; batch_of(alloc, 256)?, Ok(batch));
-    assert_eq!(rt; batch_of(alloc, 257)?, Err(Usage { word: 260 }));
+    assert!(rt; batch_named(alloc, "a", 255)? == Ok(batch));
+    assert!(rt; batch_named(alloc, "a", 256)? == Err(Usage { word: 4 }));
+    assert!(rt; batch_named(alloc, "é", 127)? == Ok(batch));
+    assert!(rt; batch_named(alloc, "é", 128)? == Err(Usage { word: 4 }));
+    assert!(rt; batch_of(alloc, 256)? == Ok(batch));
+    assert!(rt; batch_of(alloc, 257)? == Err(Usage { word: 260 }));
     Ok(())
 }
 
@@ -333,6 +310,6 @@ fn a_name_has_up_to_255_bytes_and_a_batch_up_to_256_names(rt: HostRuntime) -> Re
 fn the_text_of_a_usage(rt: HostRuntime) -> Result<(), Fail> {
     let mut text = String::new(rt.alloc());
     write!(text, "{}", Usage { word: 3 })?;
-    assert_eq!(rt; text.as_str(), "usage: word 3");
+    assert!(rt; text.as_str() == "usage: word 3");
     Ok(())
 }

@@ -53,33 +53,39 @@ fn refused<'a>(failing_openings: &'a [u64], outlets: &'a [&'a [u8]], line: &'a [
     }
 }
 
-/// A name with a source of these bytes and a sink.
+/// A name with a source of these bytes and a sink. What it is made of comes in, so that few ways out let go of few things.
 fn named(
     alloc: Global,
     name: &str,
-    content: &[u8],
-    failing_reads: &[u64],
-    failing_writes: &[u64],
+    content: Vec<u8>,
+    failing_reads: Vec<u64>,
+    failing_writes: Vec<u64>,
 ) -> Result<(String, MemSource, MemSink), AllocError>
     ensures name { IfOk result (λ devices. name_of devices ≡ name.now) }
     ensures fresh { IfOk result IsFresh }
 {
+    let text = String::from_str(alloc, name)?;
+    let sink = MemSink::make(alloc, 64, Vec::new(alloc), failing_writes)?;
     Ok((
-        String::from_str(alloc, name)?,
-        MemSource::make(
-            content.to_vec(alloc)?,
-            Vec::new(alloc),
-            failing_reads.to_vec(alloc)?,
-        ),
-        MemSink::make(alloc, 64, Vec::new(alloc), failing_writes.to_vec(alloc)?)?,
+        text,
+        MemSource::make(content, Vec::new(alloc), failing_reads),
+        sink,
     ))
 }
 
 fn doors_of(alloc: Global, case: &Batch<'_>) -> Result<MemDoors, AllocError> {
     let [first, second] = case.contents;
+    let reads = case.failing_reads.to_vec(alloc)?;
+    let writes = case.failing_writes.to_vec(alloc)?;
     let mut names = Vec::new(alloc);
-    names.push(named(alloc, "a", first, case.failing_reads, case.failing_writes)?)?;
-    names.push(named(alloc, "b", second, &[], &[])?)?;
+    names.push(named(alloc, "a", first.to_vec(alloc)?, reads, writes)?)?;
+    names.push(named(
+        alloc,
+        "b",
+        second.to_vec(alloc)?,
+        Vec::new(alloc),
+        Vec::new(alloc),
+    )?)?;
     MemDoors::make(
         alloc,
         names,
@@ -126,8 +132,10 @@ fn holds<R: Wait + Threads + Sync>(
     Ok(holds)
 }
 
+// The lines are one write, the flush is the second call of the sink, and there is no third one. A fault of it comes before those
+// of names.
 #[test]
-fn each_name_has_its_line(rt: HostRuntime) -> Result<(), Fail> {
+fn each_name_has_its_line_or_a_fault_is_told(rt: HostRuntime) -> Result<(), Fail> {
     let alloc = rt.alloc();
     let cases = [
         USUAL,
@@ -154,17 +162,6 @@ fn each_name_has_its_line(rt: HostRuntime) -> Result<(), Fail> {
             line: b"a: bad frame at 0: length 1\n",
             ..USUAL
         },
-    ];
-    for case in &cases {
-        assert!(rt; holds(&rt, alloc, case)?);
-    }
-    Ok(())
-}
-
-#[test]
-fn a_device_that_fails_shows_in_the_line_of_its_name(rt: HostRuntime) -> Result<(), Fail> {
-    let alloc = rt.alloc();
-    let cases = [
         Batch {
             failing_reads: &[1],
             outlets: &[b"", b""],
@@ -181,17 +178,6 @@ fn a_device_that_fails_shows_in_the_line_of_its_name(rt: HostRuntime) -> Result<
             line: b"a: write fault after 0\n",
             ..USUAL
         },
-    ];
-    for case in &cases {
-        assert!(rt; holds(&rt, alloc, case)?);
-    }
-    Ok(())
-}
-
-#[test]
-fn an_opening_that_fails_ends_the_command(rt: HostRuntime) -> Result<(), Fail> {
-    let alloc = rt.alloc();
-    let cases = [
         refused(&[1], &[], b"door fault at word 4\n"),
         refused(&[2], &[], b"door fault at word 4\n"),
         refused(&[3], &[b""], b"door fault at word 5\n"),
@@ -205,18 +191,6 @@ fn an_opening_that_fails_ends_the_command(rt: HostRuntime) -> Result<(), Fail> {
             words: &["2", "line", "len4", "max=9", "a", "max=9"],
             ..refused(&[], &[b""], b"door fault at word 6\n")
         },
-    ];
-    for case in &cases {
-        assert!(rt; holds(&rt, alloc, case)?);
-    }
-    Ok(())
-}
-
-// The lines are one write, the flush is the second call, and there is no third one.
-#[test]
-fn a_fault_of_the_sink_comes_before_those_of_names(rt: HostRuntime) -> Result<(), Fail> {
-    let alloc = rt.alloc();
-    let cases = [
         Batch {
             fails: &[1],
             output: b"",

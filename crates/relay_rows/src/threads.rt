@@ -22,7 +22,7 @@ fn pump_runs_on_two_threads(rt: HostRuntime) -> Result<(), Fail> {
     let words = ["pump", "len4", "line"];
     let mut doors = NoDoors::new();
     assert!(rt; succeeds(&rt, alloc, &words, &mut source, &mut sink, &mut doors)?);
-    assert_eq!(rt; sink.bytes(), b"hi\n".as_slice());
+    assert!(rt; sink.bytes() == b"hi\n".as_slice());
     Ok(())
 }
 
@@ -55,10 +55,10 @@ fn two_workers_go_on_beside_each_other(rt: HostRuntime) -> Result<(), Fail> {
         outlet: HeldSink::new(Vec::new(alloc), &held),
     })?;
     let finished = batch(&rt, alloc, tasks, 2, &job())?;
-    assert_eq!(rt; finished.len(), 2);
+    assert!(rt; finished.len() == 2);
     for (done, text) in finished.iter().zip([b"a\n", b"b\n"]) {
-        assert_eq!(rt; status_of_answer(&done.report), Status::Clean);
-        assert_eq!(rt; done.outlet.bytes(), text.as_slice());
+        assert!(rt; status_of_answer(&done.report) == Status::Clean);
+        assert!(rt; done.outlet.bytes() == text.as_slice());
     }
     Ok(())
 }
