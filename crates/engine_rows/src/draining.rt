@@ -1,15 +1,16 @@
 //! A drainer on a pipe for two threads, of which one thread makes all calls.
 
-ghost use Rattle.std.specs.Prelude.{◌≡◌, [], None, IfSome, IsSomeAnd};
+ghost use Rattle.std.specs.Prelude.{◌≡◌, [], IfSome, IsSomeAnd};
 ghost use Rattle.turn_cell.specs.Seat.{IsIdle, IsOf};
-ghost use Rattle.pipe_shared.specs.Log.{IsLawful};
 ghost use Rattle.relay_engine.specs.PipeDrainer.{IsOfPipe};
 
 use edge_core::MemSink;
 use frame_grammar::{BadKind, Framing, Job};
 use pipe_core::{FlushReply, Wake};
 use pipe_shared::{FlushFault, Made, Options, Pipe, WriterDone, WriterEnd};
+use pipe_state::numbered_blocks_fit;
 use relay_engine::{DrainEnd, DrainStep, Drainer, drain};
+use seg_block::own_blocks;
 use std::alloc::{AllocError, Global};
 use std::sync::Wait;
 use std::test::Fail;
@@ -33,9 +34,11 @@ const JOB: Job = Job {
 
 fn made(alloc: Global) -> Option<Made>
     ensures { IfSome result (λ made. IsIdle made.0 made.1.seat × IsIdle made.0 made.2.seat × IsOf made.0 made.3
-        × (made.2.seat.own ≡ []) × IsLawful made.2.seat.seen × (made.2.lent ≡ None)) }
+        × (made.2.seat.own ≡ [])) }
 {
-    Pipe::make(alloc, OPTIONS).ok()
+    numbered_blocks_fit();
+    let blocks = own_blocks(alloc, OPTIONS.segments, OPTIONS.segment).ok()?;
+    Pipe::make(alloc, OPTIONS, blocks).ok()
 }
 
 fn sink(alloc: Global, failing_calls: &[u64]) -> Result<MemSink, AllocError> {

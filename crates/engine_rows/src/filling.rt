@@ -7,7 +7,9 @@ ghost use Rattle.relay_engine.specs.PipeFiller.{IsUnused};
 use edge_core::{MemSource, Source};
 use pipe_core::ReadReply;
 use pipe_shared::{Full, Options, Pipe, ReaderEnd};
+use pipe_state::numbered_blocks_fit;
 use relay_engine::{FillEnd, FillStep, Filler, fill};
+use seg_block::own_blocks;
 use std::alloc::{AllocError, Global};
 use std::test::Fail;
 
@@ -37,10 +39,12 @@ fn make(rt: &HostRuntime, options: Options, limit: u64) -> Option<(Pipe, Filler,
     ensures { IfSome result (λ made.
         IsIdle made.0 made.1.end.seat × IsOf made.0 made.2.seat × IsUnused made.1) }
 {
-    if limit > 1_000_000 || options.segments > 2 || options.segment > 64 {
+    if limit > 1_000_000 || options.segment == 0 || options.segment > 64 {
         return None;
     }
-    match Pipe::make(rt.alloc(), options) {
+    numbered_blocks_fit();
+    let blocks = own_blocks(rt.alloc(), options.segments, options.segment).ok()?;
+    match Pipe::make(rt.alloc(), options, blocks) {
         Ok((pipe, writer, reader, _)) => Some((pipe, Filler::new(writer, limit), reader)),
         Err(_) => None,
     }
@@ -97,9 +101,9 @@ fn a_full_pipe_takes_more_once_it_is_read(rt: HostRuntime) -> Result<(), Fail> {
     assert_eq!(rt; step(&pipe, &mut filler, &mut source), moved(64));
     assert_eq!(rt; step(&pipe, &mut filler, &mut source), moved(64));
     let full = FillStep::Full(Full {
-        held: 128,
-        draft: 0,
-        capacity: 128,
+        writer: 1,
+        waiting: 1,
+        reader: 0,
     });
     assert_eq!(rt; step(&pipe, &mut filler, &mut source), Some(full));
     assert_eq!(rt; consume(&pipe, &mut reader), Some((128, None)));

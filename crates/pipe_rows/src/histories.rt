@@ -1,5 +1,6 @@
 //! Random lawful histories of a control. Each answer is compared with what the rules on pipes say of the whole history.
 
+use crate::dice::Dice;
 use crate::player::{Call, Player, Told};
 use pipe_core::{FlushReply, ReadReply, Wake};
 
@@ -260,41 +261,25 @@ fn is_lawful(h: &[Call], call: Call) -> bool {
     }
 }
 
-// Numbers that look random.
-#[derive(Drop)]
-struct Dice {
-    state: u64,
-}
-
-impl Dice {
-    fn below(&mut self, sides: u64) -> u64 {
-        self.state = self
-            .state
-            .wrapping_mul(6364136223846793005)
-            .wrapping_add(1442695040888963407);
-        (self.state >> 33) % sides.max(1)
-    }
-
-    fn call(&mut self) -> Call {
-        match self.below(20) {
-            0..=6 => Call::Commit {
-                bytes: self.below(8),
-            },
-            7..=11 => Call::Read {
-                least: self.below(10),
-            },
-            12..=15 => {
-                let e = self.below(12);
-                Call::Advance {
-                    c: self.below(12).min(e),
-                    e,
-                }
+fn random_call(dice: &mut Dice) -> Call {
+    match dice.below(20) {
+        0..=6 => Call::Commit {
+            bytes: dice.below(8),
+        },
+        7..=11 => Call::Read {
+            least: dice.below(10),
+        },
+        12..=15 => {
+            let e = dice.below(12);
+            Call::Advance {
+                c: dice.below(12).min(e),
+                e,
             }
-            16 => Call::CancelRead,
-            17 => Call::CancelFlush,
-            18 => Call::EndWriter,
-            _ => Call::EndReader,
         }
+        16 => Call::CancelRead,
+        17 => Call::CancelFlush,
+        18 => Call::EndWriter,
+        _ => Call::EndReader,
     }
 }
 
@@ -313,7 +298,7 @@ fn first_wrong(dice: &mut Dice) -> Option<Call> {
         len: 0,
     };
     for _ in 0..MOST_CALLS {
-        let call = dice.call();
+        let call = random_call(dice);
         let told = player.make(call);
         if !is_lawful(history.all(), call) {
             if told.is_some() {
@@ -331,7 +316,7 @@ fn first_wrong(dice: &mut Dice) -> Option<Call> {
 
 #[test]
 fn a_control_answers_random_histories_by_the_rules(rt: HostRuntime) {
-    let mut dice = Dice { state: 7 };
+    let mut dice = Dice::new(7);
     for _ in 0..HISTORIES {
         assert!(rt; first_wrong(&mut dice).is_none());
     }

@@ -5,6 +5,8 @@
 #[cfg(test)]
 mod at_least;
 #[cfg(test)]
+mod dice;
+#[cfg(test)]
 mod histories;
 #[cfg(test)]
 mod local;
@@ -13,7 +15,13 @@ mod plain;
 #[cfg(test)]
 mod player;
 #[cfg(test)]
+mod queue;
+#[cfg(test)]
 mod replies;
+#[cfg(test)]
+mod rooms;
+#[cfg(test)]
+mod scripts;
 #[cfg(test)]
 mod shared;
 #[cfg(test)]

@@ -5,7 +5,7 @@ ghost use Rattle.std.specs.Prelude.{◌≡◌, None, IsNone, IsSome, OnOk};
 use crate::replies::{FLUSHED, NOBODY, THE_READER, reply};
 use crate::shared::{SMALL, is_just};
 use pipe_core::{FlushReply, ReadReply, TooMuch, Wake};
-use pipe_shared::{Closed, Full, LocalPipe, LocalRoomFault, MakeError};
+use pipe_shared::{Carried, LocalFull, LocalPipe, LocalRoomFault, MakeError};
 use std::process::Abort;
 
 // Writes these bytes to the front of the free part, and tells so.
@@ -149,10 +149,10 @@ fn a_plain_run_of_a_pipe_for_one_thread(rt: HostRuntime) -> Result<(), MakeError
     assert!(rt; use_up(&mut pipe, b"12345678", 8, 8) == Some((reply(Some(0), 8), NOBODY)));
     assert!(rt; pipe.read() == (reply(Some(0), 0), NOBODY));
     assert!(rt; pipe.end_reader(0) == NOBODY);
-    let closed = pipe.close();
+    let carried = pipe.close();
     assert!(rt;
-        closed
-            == Closed {
+        carried
+            == Carried {
                 committed: 13,
                 consumed: 13
             }
@@ -175,7 +175,7 @@ fn room_for_one_thread_is_granted_up_to_the_capacity(rt: HostRuntime) -> Result<
     assert!(rt; flush(&mut pipe).is_ok());
     assert!(rt; pipe.room(5) == Ok(64));
     assert!(rt; draft_local(&mut pipe, &[9; 64]));
-    let full = LocalRoomFault::Full(Full {
+    let full = LocalRoomFault::Full(LocalFull {
         held: 60,
         draft: 64,
         capacity: 128,

@@ -2,7 +2,7 @@
 
 ghost use Rattle.std.specs.Prelude.{◌≡◌};
 ghost use Rattle.pipe_core.specs.Standing.{AreThresholds};
-ghost use Rattle.pipe_shared.specs.State.{len_of};
+ghost use Rattle.pipe_turns.specs.Lends.{len_of};
 
 use crate::plain::commit;
 use pipe_core::{Control, FlushReply, ReadReply, Wake};

@@ -1,15 +1,17 @@
 //! Known runs of a pipe that two threads use, and a third cancels.
 
-ghost use Rattle.std.specs.Prelude.{◌≡◌, None, IfSome, IsNone};
+ghost use Rattle.std.specs.Prelude.{◌≡◌, None, IfOk, IfSome, IsNone};
 ghost use Rattle.std.specs.Thread.{IsSync};
 ghost use Rattle.turn_cell.specs.Seat.{IsOf};
 
 use crate::replies::{FLUSHED, NOBODY, THE_READER, THE_WRITER, reply};
 use pipe_core::{FlushReply, ReadReply, Wake};
 use pipe_shared::{
-    Canceller, Closed, Field, FlushFault, Full, Made, MakeError, Options, Pipe, ReaderDone,
-    ReaderEnd, ReaderRefused, RoomFault, TryFault, WriterDone, WriterEnd, WriterRefused,
+    Canceller, Closed, Field, FlushFault, Made, MakeError, MakeRefused, Options, Pipe, ReaderDone,
+    ReaderEnd, ReaderRefused, TryFault, WriterDone, WriterEnd, WriterRefused,
 };
+use pipe_state::numbered_blocks_fit;
+use seg_block::{Block, own_blocks};
 use span_seq::{Sequence, Spans};
 use std::sync::Wait;
 use std::test::Fail;
@@ -26,30 +28,52 @@ pub(crate) type Flushed = Result<(FlushReply, Wake), FlushFault>;
 
 pub(crate) type Gave = Result<(ReadReply, Wake), TryFault>;
 
-type Woke = Result<Wake, TryFault>;
+pub(crate) type Woke = Result<Wake, TryFault>;
 
 // A pipe with these options, where they are small.
 pub(crate) fn make(rt: &HostRuntime, options: Options) -> Option<Made>
     ensures { IfSome result (λ made.
         IsOf made.0 made.1.seat × IsOf made.0 made.2.seat × IsOf made.0 made.3) }
 {
-    if options.segments > 32 || options.segment > 65536 {
-        return None;
-    }
-    match Pipe::make(rt.alloc(), options) {
-        Ok(made) => Some(made),
-        Err(_) => None,
-    }
+    make_of(rt, options)?.ok()
 }
 
-fn complete(pipe: &Pipe, w: WriterEnd) -> Option<(WriterDone, Wake)>
+// The same, or why there is none and the blocks.
+fn make_of(rt: &HostRuntime, options: Options) -> Option<Result<Made, MakeRefused>>
+    ensures { IfSome result (λ outcome. IfOk outcome (λ made.
+        IsOf made.0 made.1.seat × IsOf made.0 made.2.seat × IsOf made.0 made.3)) }
+{
+    if options.segments > 32 || options.segment == 0 || options.segment > 65_536 {
+        return None;
+    }
+    numbered_blocks_fit();
+    let blocks = own_blocks(rt.alloc(), options.segments, options.segment).ok()?;
+    Some(Pipe::make(rt.alloc(), options, blocks))
+}
+
+// Whether these are so many blocks, with the numbers from 0 on, in any order.
+pub(crate) fn are_all(blocks: &[Block], count: u64) -> bool {
+    for number in 0..count {
+        if !blocks.iter().any(|block| block.id() == number) {
+            return false;
+        }
+    }
+    blocks.len() as u64 == count
+}
+
+// Whether a closed pipe has carried so many bytes, which were all consumed, and gives back so many blocks.
+fn has_carried(closed: &Closed, bytes: u64, blocks: u64) -> bool {
+    closed.committed == bytes && closed.consumed == bytes && are_all(&closed.blocks, blocks)
+}
+
+pub(crate) fn complete(pipe: &Pipe, w: WriterEnd) -> Option<(WriterDone, Wake)>
     requires { IsOf pipe.now w.seat }
     ensures { IfSome result (λ done. IsOf pipe.now done.0) }
 {
     pipe.try_complete(w, 0).ok()
 }
 
-fn complete_reader(pipe: &Pipe, r: ReaderEnd) -> Option<(ReaderDone, Wake)>
+pub(crate) fn complete_reader(pipe: &Pipe, r: ReaderEnd) -> Option<(ReaderDone, Wake)>
     requires { IsOf pipe.now r.seat }
     ensures { IfSome result (λ done. IsOf pipe.now done.0) }
 {
@@ -81,7 +105,7 @@ pub(crate) fn draft(w: &mut WriterEnd, bytes: &[u8]) -> bool
 }
 
 // Reads, where no lend stands.
-fn read(pipe: &Pipe, r: &mut ReaderEnd) -> Option<Gave>
+pub(crate) fn read(pipe: &Pipe, r: &mut ReaderEnd) -> Option<Gave>
     requires { IsOf pipe.now r.old.seat }
     ensures { IsOf pipe.now r.new.seat }
 {
@@ -111,7 +135,12 @@ fn advance(pipe: &Pipe, r: &mut ReaderEnd, lent: &[u8], c: u64, e: u64) -> Optio
     Some(pipe.try_advance(r, c, e))
 }
 
-fn lends(len: u64) -> Option<Gave> {
+// Whether all that is lent lies in one span.
+fn lends_one_span(r: &ReaderEnd) -> bool {
+    r.lending() && r.lent().is_single() && r.chain().count() == 1
+}
+
+pub(crate) fn lends(len: u64) -> Option<Gave> {
     ready(None, len)
 }
 
@@ -133,9 +162,11 @@ fn a_plain_run_of_a_pipe(rt: HostRuntime) -> Result<(), Fail> {
     assert!(rt; read(&pipe, &mut r) == waits(0));
     assert!(rt; pipe.try_flush(&mut w) == Ok((FLUSHED, THE_READER)));
     assert!(rt; read(&pipe, &mut r) == lends(3));
+    assert!(rt; lends_one_span(&r));
     assert!(rt; send(&pipe, &mut w, b"de") == Some(Ok((FLUSHED, NOBODY))));
     assert!(rt; advance(&pipe, &mut r, b"abc", 1, 3) == Some(Ok(NOBODY)));
     assert!(rt; read(&pipe, &mut r) == lends(4));
+    assert!(rt; lends_one_span(&r));
     assert!(rt; advance(&pipe, &mut r, b"bcde", 4, 4) == Some(Ok(NOBODY)));
     assert!(rt; read(&pipe, &mut r) == waits(5));
     let held = FlushReply::Pending { unexamined: 8 };
@@ -148,13 +179,7 @@ fn a_plain_run_of_a_pipe(rt: HostRuntime) -> Result<(), Fail> {
     let (r, wake) = complete_reader(&pipe, r).ok_or("free")?;
     assert!(rt; wake == NOBODY);
     let closed = pipe.close(w, r, k);
-    assert!(rt;
-        closed
-            == Closed {
-                committed: 13,
-                consumed: 13
-            }
-    );
+    assert!(rt; has_carried(&closed, 13, 2));
     Ok(())
 }
 
@@ -222,38 +247,7 @@ fn a_plain_run_of_a_pipe_by_calls_that_wait(rt: HostRuntime) -> Result<(), Fail>
     assert!(rt; read_waiting(&rt, &pipe, &mut r) == Some(reply(Some(0), 0)));
     let r = pipe.complete_reader(&rt, r, 0);
     let closed = pipe.close(w, r, k);
-    assert!(rt;
-        closed
-            == Closed {
-                committed: 13,
-                consumed: 13
-            }
-    );
-    Ok(())
-}
-
-#[test]
-fn room_is_granted_up_to_the_capacity(rt: HostRuntime) -> Result<(), Fail> {
-    let (pipe, mut w, mut r, _k) = make(&rt, SMALL).ok_or("memory")?;
-    let too_large = RoomFault::TooLarge {
-        hint: 65,
-        segment: 64,
-    };
-    assert!(rt; pipe.try_room(&mut w, 65) == Err(too_large));
-    assert!(rt; send(&pipe, &mut w, &[7; 60]).is_some());
-    assert!(rt; pipe.try_room(&mut w, 4) == Ok(4));
-    assert!(rt; draft(&mut w, &[8; 4]));
-    assert!(rt; pipe.try_room(&mut w, 64) == Ok(64));
-    assert!(rt; draft(&mut w, &[9; 60]));
-    let full = RoomFault::Full(Full {
-        held: 60,
-        draft: 64,
-        capacity: 128,
-    });
-    assert!(rt; pipe.try_room(&mut w, 5) == Err(full));
-    assert!(rt; read(&pipe, &mut r).is_some());
-    assert!(rt; advance(&pipe, &mut r, &[7; 60], 1, 60) == Some(Ok(THE_WRITER)));
-    assert!(rt; pipe.try_room(&mut w, 5) == Ok(5));
+    assert!(rt; has_carried(&closed, 13, 2));
     Ok(())
 }
 
@@ -277,11 +271,10 @@ fn cancellations_end_the_pending_call_or_the_next(rt: HostRuntime) -> Result<(),
     Ok(())
 }
 
+// Why no pipe was made with these options, where all blocks came back.
 fn refusal(rt: &HostRuntime, options: Options) -> Option<MakeError> {
-    if options.segments > 1 << 20 || options.segment > 1 << 10 {
-        return None;
-    }
-    Pipe::make(rt.alloc(), options).err()
+    let refused = make_of(rt, options)?.err()?;
+    are_all(&refused.blocks, options.segments as u64).then_some(refused.error)
 }
 
 #[test]
@@ -324,7 +317,7 @@ fn the_first_field_out_of_its_range_is_told(rt: HostRuntime) {
         resume: 0,
         ..SMALL
     };
-    assert!(rt; refusal(&rt, never) == None);
+    assert!(rt; make(&rt, never).is_some());
 }
 
 // Tries until there is room for a piece, and drafts it.
@@ -508,13 +501,7 @@ fn three_threads_use_a_pipe_and_no_byte_is_lost(rt: HostRuntime) -> Result<(), F
     let (w, ((r, read), k)) = use_by_three(&rt, &pipe, w, r, k, 500);
     let closed = pipe.close(w, r, k);
     assert_eq!(rt; read, 10_000);
-    assert!(rt;
-        closed
-            == Closed {
-                committed: 10_000,
-                consumed: 10_000
-            }
-    );
+    assert!(rt; has_carried(&closed, 10_000, 2));
     Ok(())
 }
 
@@ -540,16 +527,33 @@ fn write_pieces<R: Wait>(rt: &R, pipe: &Pipe, mut w: WriterEnd, pieces: u64) -> 
     complete_waiting(rt, pipe, w)
 }
 
-// Whether these bytes are those of the pieces, of which so many bytes went before.
-fn is_in_order(bytes: &[u8], before: u64) -> bool {
+// Whether these bytes are those of pieces of so many bytes, each of which has its number in every byte, where so many bytes went before.
+pub(crate) fn is_in_order<C: Spans>(lent: &Sequence<'_, C>, before: u64, piece: u64) -> bool {
+    let mut at = before;
+    for span in lent.spans() {
+        if !are_numbered(span, at, piece) {
+            return false;
+        }
+        at = at.saturating_add(span.len() as u64);
+    }
+    true
+}
+
+// The same of one span.
+fn are_numbered(bytes: &[u8], before: u64, piece: u64) -> bool {
     let mut at = before;
     for byte in bytes {
-        if *byte != (at / 20 & 255) as u8 {
+        if *byte != number_at(at, piece) {
             return false;
         }
         at = at.saturating_add(1);
     }
     true
+}
+
+// The byte that stands behind so many bytes of pieces.
+pub(crate) fn number_at(at: u64, piece: u64) -> u8 {
+    (at / piece.max(1) & 255) as u8
 }
 
 // Reads and consumes once, behind so many bytes. None at the end, or where the bytes aren't those that were written.
@@ -563,7 +567,7 @@ fn read_once<R: Wait>(rt: &R, pipe: &Pipe, r: &mut ReaderEnd, before: u64) -> Op
     pipe.read(rt, r);
     let lent = r.lent();
     let len = lent.len();
-    if !lent.is_single() || !is_in_order(lent.first(), before) {
+    if !is_in_order(&lent, before, 20) {
         return None;
     }
     pipe.advance(rt, r, len, len);

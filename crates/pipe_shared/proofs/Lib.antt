@@ -1,10 +1,4 @@
-pub mod StateLemmas
 pub mod SpanLemmas
-pub mod RoomLemmas
-pub mod SeenLemmas
-pub mod TurnLemmas
-pub mod HoldLemmas
 pub mod EndLemmas
-pub mod HeardLemmas
 pub mod WaitingLemmas
 pub mod LocalLemmas

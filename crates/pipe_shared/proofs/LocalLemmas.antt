@@ -1,23 +1,34 @@
 -- What a call of the pipe inside is to the pipe for one thread, of which only the granted part is seen.
-use Rattle.std.proofs.Common.{◌≡◌, ◌≤◌, ◌+◌, ◌-◌, ℕ, List, [], ◌∷◌, ◌++◌, length, take, drop, reverse, refl, sym, ap, subst, ◌∙◌, arith}
-use Rattle.std.proofs.lemmas.List.{length-take, length-drop, take-take, drop-take}
+use Rattle.std.proofs.Common.{◌≡◌, ◌≤◌, ◌+◌, ◌-◌, ℕ, Bool, true, false, List, [], ◌∷◌, ◌++◌, length, take, drop, reverse, refl, sym, ap, subst, ◌∙◌, arith}
+use Rattle.std.proofs.lemmas.List.{length-append, length-take, length-drop, take-take, drop-take}
 use Rattle.turn_cell.specs.History.{made_by}
 use Rattle.pipe_core.specs.declared.reply.Wake.{Wake}
-use Rattle.pipe_core.specs.History.{Run, Call, Commit, Read, Advance, EndReader, bytes_of, run_in, seat_of}
+use Rattle.pipe_core.specs.History.{Run, Call, Commit, Read, Advance, EndReader, bytes_of, reader_end, run_in, seat_of}
 use Rattle.pipe_core.specs.Answers.{Answer, Flushed}
-use Rattle.pipe_core.specs.Bytes.{Bytes, with_draft}
+use Rattle.pipe_core.specs.Bytes.{Bytes, settled, with_draft}
+use Rattle.pipe_core.specs.Legal.{IsLegal}
 use Rattle.pipe_core.specs.Pipe.{Pipe, HoldsFor, Made, PipeAnswers, kept}
 use Rattle.pipe_core.proofs.RunLemmas.{run_in_bytes}
-use Rattle.pipe_core.proofs.PipeLemmas.{kept_advance}
-use Rattle.pipe_shared.specs.declared.options.Options.{Options}
-use Rattle.pipe_shared.specs.Log.{calls_of}
+use Rattle.pipe_core.proofs.PipeLemmas.{kept_advance, settled_holds}
+use Rattle.pipe_state.specs.declared.options.Options.{Options}
+use Rattle.pipe_turns.specs.Log.{calls_of}
 use Rattle.pipe_shared.specs.Local.{Local, with_free, local_of, IsLocal, LocalAnswers, LocalKeeps, with_drafted}
-use Rattle.pipe_shared.proofs.StateLemmas.{more_by, calls_behind, same_answer}
-use Rattle.pipe_shared.proofs.EndLemmas.{kept_commit}
-use Rattle.std.specs.Prelude.{Result, Ok, Err, IfOk, OnOk, OnErr}
+use Rattle.pipe_turns.proofs.StateLemmas.{more_by, calls_behind, same_answer}
+use Rattle.std.specs.Prelude.{is_some, Result, Ok, Err, IfOk, OnOk, OnErr}
 use Rattle.pipe_core.specs.declared.reply.FlushReply.{FlushReply}
 use Rattle.pipe_core.specs.declared.reply.TooMuch.{TooMuch}
 use Rattle.std.specs.List.{AllByRecursion}
+
+-- a commit makes what is kept longer by its bytes at most
+pub kept_commit : (runs : List Run) (h : List Call) → IsLegal h → length (kept (Commit runs ∷ h)) ≤ length (kept h) + length (bytes_of runs)
+kept_commit runs h legal =
+    let b : Bytes = record { held = kept h; draft = bytes_of runs; free = [] } in
+    let holds = settled_holds b runs h (is_some (reader_end h)) refl refl legal refl in
+    omega (arith, sym (ap length holds), most (is_some (reader_end h)))
+  where
+    most : (dropped : Bool) → length (settled dropped (record { held = kept h; draft = bytes_of runs; free = [] })).held ≤ length (kept h) + length (bytes_of runs)
+    most true = omega arith
+    most false = omega (arith, length-append (kept h) (bytes_of runs))
 
 -- what a pipe stands for has nothing to do with what is free
 pub whole : (p : Pipe) (free : List ℕ) (h : List Call) → HoldsFor (with_free p free) h → HoldsFor p h

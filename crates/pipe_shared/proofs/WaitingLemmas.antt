@@ -14,22 +14,21 @@ use Rattle.pipe_core.specs.Reads.{read_is_ready, reply_to_read}
 use Rattle.pipe_core.specs.Lends.{lend}
 use Rattle.pipe_core.specs.Answers.{Answer, Flushed, Gave, Woke}
 use Rattle.pipe_core.proofs.OrderLemmas.{ordered}
-use Rattle.pipe_shared.specs.declared.options.Options.{Options}
-use Rattle.pipe_shared.specs.declared.faults.TryFault.{TryFault}
-use Rattle.pipe_shared.specs.declared.faults.TryFault.TheVariants as try
-use Rattle.pipe_shared.specs.declared.faults.FlushFault.{FlushFault}
-use Rattle.pipe_shared.specs.declared.faults.FlushFault.TheVariants as flush
+use Rattle.pipe_state.specs.declared.options.Options.{Options}
+use Rattle.pipe_turns.specs.declared.faults.TryFault.{TryFault}
+use Rattle.pipe_turns.specs.declared.faults.TryFault.TheVariants as try
+use Rattle.pipe_turns.specs.declared.faults.FlushFault.{FlushFault}
+use Rattle.pipe_turns.specs.declared.faults.FlushFault.TheVariants as flush
 use Rattle.pipe_shared.specs.declared.faults.RoomFault.TheVariants as room
-use Rattle.pipe_shared.specs.Log.{calls_of}
-use Rattle.pipe_shared.specs.Faults.{is_tried_again}
-use Rattle.pipe_shared.specs.State.{len_of}
-use Rattle.pipe_shared.specs.Turns.{Seat, Wins, Refuses, RefusesFlush, FindsTooMuch, Makes}
+use Rattle.pipe_turns.specs.Log.{calls_of}
+use Rattle.pipe_turns.specs.Faults.{is_tried_again}
+use Rattle.pipe_turns.specs.Lends.{len_of}
+use Rattle.pipe_turns.specs.Turns.{Seat, Wins, Refuses, RefusesFlush, FindsTooMuch, Makes}
 use Rattle.pipe_shared.specs.Ends.{Writer, Reader}
 use Rattle.pipe_shared.specs.Granting.{Grants, GrantsAnew, Stays}
 use Rattle.pipe_shared.specs.Waiting.{Tried, untried, tried, AtLast}
 use Rattle.pipe_shared.specs.Attempts.{TriesRoom, TriesFlush, TriesCompletion, TriesRead, TriesToEnd, waits_for_room, waits_to_flush, waits_to_complete, waits_to_read, waits_for_turn, lends_nothing, IsSince, FlushesOn, ReadsOn, CallsOnce}
-use Rattle.pipe_shared.proofs.StateLemmas.{calls_of-append}
-use Rattle.pipe_shared.proofs.EndLemmas.{calls_made}
+use Rattle.pipe_turns.proofs.StateLemmas.{calls_made, calls_of-append}
 
 -- what a seat has made itself, after a refusal and after a call
 pub refused_own : (fault : TryFault) (old new : Seat) → Refuses fault old new → new.own ≡ old.own
@@ -134,20 +133,21 @@ called_once options call old before wake new t made = record {
 pub record IsAsBefore (old new : Writer) : Type 0 where
   pub draft : new.draft ≡ old.draft
   pub free : new.free ≡ old.free
+  pub hint : new.hint ≡ old.hint
   pub own : new.seat.own ≡ old.seat.own
   pub behind : IsBehind old.seat new.seat
 
 pub as_before : (a b c : Writer) → IsAsBefore a b → IsAsBefore b c → IsAsBefore a c
-as_before a b c f g = record { draft = g.draft ∙ f.draft; free = g.free ∙ f.free; own = g.own ∙ f.own; behind = behind_trans a.seat b.seat _ f.behind g.behind }
+as_before a b c f g = record { draft = g.draft ∙ f.draft; free = g.free ∙ f.free; hint = g.hint ∙ f.hint; own = g.own ∙ f.own; behind = behind_trans a.seat b.seat _ f.behind g.behind }
 
 pub refused_flush : (fault : FlushFault) (old new : Writer) → RefusesFlush (length (bytes_of old.draft)) fault old.seat new.seat → Stays old new → IsAsBefore old new
-refused_flush (flush.Busy word) old new r s = record { draft = s.draft; free = s.free; own = ap (λ (x : Seat). x.own) r.after; behind = ([], ap (λ (x : Seat). calls_of x.seen) r.after) }
-refused_flush (flush.Worn entries) old new r s = record { draft = s.draft; free = s.free; own = ap (λ (x : Seat). x.own) r.wins.after; behind = won_behind old.seat new.seat r.wins }
-refused_flush (flush.TooMuch total) old new r s = record { draft = s.draft; free = s.free; own = ap (λ (x : Seat). x.own) r.wins.after; behind = won_behind old.seat new.seat r.wins }
+refused_flush (flush.Busy word) old new r s = record { draft = s.draft; free = s.free; hint = s.hint; own = ap (λ (x : Seat). x.own) r.after; behind = ([], ap (λ (x : Seat). calls_of x.seen) r.after) }
+refused_flush (flush.Worn entries) old new r s = record { draft = s.draft; free = s.free; hint = s.hint; own = ap (λ (x : Seat). x.own) r.wins.after; behind = won_behind old.seat new.seat r.wins }
+refused_flush (flush.TooMuch total) old new r s = record { draft = s.draft; free = s.free; hint = s.hint; own = ap (λ (x : Seat). x.own) r.wins.after; behind = won_behind old.seat new.seat r.wins }
 
 -- attempts at the writer's completion leave all as it was
 pub completion_tried : (options : Options) (code : ℕ) (old new : Writer) → Tried (TriesCompletion options code) waits_to_complete old new → IsAsBefore old new
-completion_tried options code old new untried = record { draft = refl; free = refl; own = refl; behind = ([], refl) }
+completion_tried options code old new untried = record { draft = refl; free = refl; hint = refl; own = refl; behind = ([], refl) }
 completion_tried options code old new (tried before _ (Ok wake) t attempt waits) = absurd cc
 completion_tried options code old new (tried before _ (Err fault) t attempt waits) =
     as_before old before new (completion_tried options code old before t) (refused_flush fault before new attempt.0 attempt.1)
@@ -225,7 +225,7 @@ not_flushed old before new (inr h) same = inr (flushed_not old before new h same
 
 -- attempts at a flush commit the draft once, if at all
 pub flush_tried : (options : Options) (old new : Writer) → Tried (TriesFlush options) waits_to_flush old new → IsAsBefore old new ⊎ HasFlushed old new
-flush_tried options old new untried = inl (record { draft = refl; free = refl; own = refl; behind = ([], refl) })
+flush_tried options old new untried = inl (record { draft = refl; free = refl; hint = refl; own = refl; behind = ([], refl) })
 flush_tried options old new (tried before _ (Ok answer) t attempt waits) =
     inr (flushed options (Flushed answer.0 answer.1) old before new (flush_tried options old before t) attempt.0 attempt.1 attempt.2)
 flush_tried options old new (tried before _ (Err fault) t attempt waits) = not_flushed old before new (flush_tried options old before t) (refused_flush fault before new attempt.0 attempt.1)

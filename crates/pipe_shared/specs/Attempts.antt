@@ -11,16 +11,16 @@ use Rattle.pipe_core.specs.Reads.{reply_to_read}
 use Rattle.pipe_core.specs.Flushes.{reply_to_commit}
 use Rattle.pipe_core.specs.Lends.{lend}
 use Rattle.pipe_core.specs.Answers.{Flushed, Gave, Woke}
-use Rattle.pipe_shared.specs.declared.options.Options.{Options}
-use Rattle.pipe_shared.specs.declared.faults.TryFault.{TryFault}
-use Rattle.pipe_shared.specs.declared.faults.FlushFault.{FlushFault}
-use Rattle.pipe_shared.specs.declared.faults.FlushFault.TheVariants as flush_fault
+use Rattle.pipe_state.specs.declared.options.Options.{Options}
+use Rattle.pipe_turns.specs.declared.faults.TryFault.{TryFault}
+use Rattle.pipe_turns.specs.declared.faults.FlushFault.{FlushFault}
+use Rattle.pipe_turns.specs.declared.faults.FlushFault.TheVariants as flush_fault
 use Rattle.pipe_shared.specs.Waiting.{AtLast}
 use Rattle.pipe_shared.specs.declared.faults.RoomFault.{RoomFault}
 use Rattle.pipe_shared.specs.declared.faults.RoomFault.TheVariants as room
-use Rattle.pipe_shared.specs.Log.{calls_of}
-use Rattle.pipe_shared.specs.Faults.{is_tried_again}
-use Rattle.pipe_shared.specs.Turns.{Seat, Refuses, RefusesFlush, Makes}
+use Rattle.pipe_turns.specs.Log.{calls_of}
+use Rattle.pipe_turns.specs.Faults.{is_tried_again}
+use Rattle.pipe_turns.specs.Turns.{Seat, Refuses, RefusesFlush, Makes}
 use Rattle.pipe_shared.specs.Ends.{Writer, Reader}
 use Rattle.pipe_shared.specs.Granting.{Grants, RefusesRoom, Stays}
 
@@ -39,7 +39,7 @@ waits_for_room (Err (room.Full told)) = true
 -- an attempt at a flush
 abbrev pub TriesFlush : Options → Writer → Result (FlushReply × Wake) FlushFault → Writer → Type 0
 TriesFlush options old (Ok answer) new =
-    Makes options old.seat (Commit old.draft ∷ []) (Flushed answer.0 answer.1) new.seat × (new.draft ≡ []) × (length new.free ≡ length old.free)
+    Makes options old.seat (Commit old.draft ∷ []) (Flushed answer.0 answer.1) new.seat × (new.draft ≡ []) × (length new.free ≡ length old.free) × (new.hint ≡ old.hint)
 TriesFlush options old (Err fault) new = RefusesFlush (length (bytes_of old.draft)) fault old.seat new.seat × Stays old new
 
 abbrev pub is_held_back : FlushReply → Bool
@@ -58,7 +58,7 @@ FlushesAtLast options old (Err refused) new = AtLast (TriesFlush options) waits_
 
 -- a writer that has completed, of which its seat is left
 abbrev pub completed : Seat → Writer
-completed seat = record { seat = seat; draft = []; free = [] }
+completed seat = record { seat = seat; draft = []; free = []; hint = 0 }
 
 -- an attempt at the writer's completion
 abbrev pub TriesCompletion : Options → ℕ → Writer → Result Wake FlushFault → Writer → Type 0

@@ -1,44 +1,48 @@
 -- What contracts see of the two ends of a pipe, and what is always so of them.
-use Rattle.std.specs.Prelude.{◌≡◌, ℕ, ◌+◌, ◌≤◌, false, List, length, Option, Some, None}
-use Rattle.turn_cell.specs.History.{entries_of}
+use Rattle.std.specs.Prelude.{◌≡◌, ℕ, Bool, List, Option, Some, IsSome, option_map}
 use Rattle.pipe_core.specs.History.{Run, bytes_of, writer_end, reader_end}
-use Rattle.pipe_core.specs.Lends.{lend}
-use Rattle.pipe_core.specs.Pipe.{kept}
-use Rattle.pipe_shared.specs.Name.{Name}
-use Rattle.pipe_shared.specs.Options.{room_of}
-use Rattle.pipe_shared.specs.Log.{calls_of}
-use Rattle.pipe_shared.specs.Turns.{Seat}
-use Rattle.pipe_shared.specs.Rooms.{Drafted, Lent}
+use Rattle.pipe_state.specs.Sides.{reader_has}
+use Rattle.pipe_state.specs.Writing.{WritingState}
+use Rattle.pipe_state.specs.declared.reading.Reading.{Reading}
+use Rattle.pipe_turns.specs.Name.{Name}
+use Rattle.pipe_turns.specs.Log.{calls_of}
+use Rattle.pipe_turns.specs.Turns.{Seat}
+use Rattle.pipe_turns.specs.Ends.{IsEnd, ReadsFor, WritesFor}
+use Rattle.pipe_turns.specs.Holding.{Attends, GoesOn}
+use Rattle.pipe_turns.specs.Lends.{lend_runs, runs_in}
 
--- The writer: its seat, the draft, and the free part that it was granted.
+-- The writer: its seat, the draft, the free part of the segment that it fills, and the greatest hint for which it left another.
 pub record Writer : Type 0 where
   pub seat : Seat
   pub draft : List Run
   pub free : List ℕ
+  pub hint : ℕ
 
 -- The reader: its seat, and the bytes of the lend, where one stands.
 pub record Reader : Type 0 where
   pub seat : Seat
   pub lent : Option (List ℕ)
 
--- An end has the seat of this number, which doesn't hold the turn, and whose own entries are those that it has in what was seen.
-pub record IsEnd (number : ℕ) (seat : Seat) : Type 0 where
-  pub numbered : seat.number ≡ number
-  pub idle : seat.holds ≡ false
-  pub own : entries_of number seat.seen ≡ seat.own
+-- what a chain lends
+abbrev pub lent_in : Bool → Reading → Option (List ℕ)
+lent_in lending part = option_map bytes_of (runs_in lending (reader_has part.chain))
 
--- The writer has not completed, what it has drafted or was granted fits behind what it has seen to be committed and not consumed, and it was
--- granted at most a segment.
-pub record IsWriter (seat : Seat) (d : Drafted) : Type 0 where
+-- The writer has not completed, and its part is one of its pipe.
+pub record IsWriter (seat : Seat) (part : WritingState) : Type 0 where
+  pub goes : GoesOn seat
+  pub writes : (name : Name) → seat.name ≡ Some name → WritesFor name part
+
+-- The reader has not completed, its part is one of its pipe, and the lend that stands lies in the segments that it has.
+pub record IsReader (seat : Seat) (part : Reading) (lending : Bool) : Type 0 where
+  pub attends : Attends seat
+  pub reads : (name : Name) → seat.name ≡ Some name → ReadsFor name part
+  pub lent : lend_runs (calls_of seat.seen) ≡ runs_in lending (reader_has part.chain)
+
+-- an end that has completed
+pub record IsWriterDone (seat : Seat) : Type 0 where
   pub end : IsEnd 0 seat
-  pub going : writer_end (calls_of seat.seen) ≡ None
-  pub size : (name : Name) → seat.name ≡ Some name → d.size ≡ room_of name.options
-  pub at_most : (name : Name) → seat.name ≡ Some name → length d.free ≤ name.options.segment
-  pub fits : length (kept (calls_of seat.seen)) + (length (bytes_of d.draft) + length d.free) ≤ d.size
+  pub ended : IsSome (writer_end (calls_of seat.seen))
 
--- The reader has not completed, and its copy is of the lend that stands.
-pub record IsReader (seat : Seat) (l : Lent) : Type 0 where
+pub record IsReaderDone (seat : Seat) : Type 0 where
   pub end : IsEnd 1 seat
-  pub attended : reader_end (calls_of seat.seen) ≡ None
-  pub size : (name : Name) → seat.name ≡ Some name → l.size ≡ room_of name.options
-  pub lent : lend (calls_of seat.seen) ≡ l.bytes
+  pub gone : IsSome (reader_end (calls_of seat.seen))

@@ -1,25 +1,25 @@
 -- What the writer is granted.
-use Rattle.std.specs.Prelude.{◌≡◌, ℕ, ◌<◌, ◌≤◌, ◌⊎◌, length}
-use Rattle.pipe_core.specs.History.{bytes_of}
-use Rattle.pipe_core.specs.Pipe.{kept}
-use Rattle.pipe_shared.specs.declared.options.Options.{Options}
+use Rattle.std.specs.Prelude.{◌≡◌, ◌≢◌, ℕ, ◌<◌, ◌≤◌, ◌⊎◌, [], length, max}
+use Rattle.pipe_state.specs.declared.options.Options.{Options}
+use Rattle.pipe_state.specs.declared.full.Full.{Full}
+use Rattle.pipe_state.specs.Full.{IsFull}
+use Rattle.pipe_state.specs.Held.{HoldsRuns, PipeHeld}
+use Rattle.pipe_state.specs.Writing.{WritingState}
 use Rattle.pipe_shared.specs.declared.faults.RoomFault.{RoomFault}
 use Rattle.pipe_shared.specs.declared.faults.RoomFault.TheVariants as room
-use Rattle.pipe_shared.specs.declared.faults.Full.{Full}
-use Rattle.pipe_shared.specs.Options.{HasRoomFor, LacksRoom}
-use Rattle.pipe_shared.specs.Log.{calls_of}
-use Rattle.pipe_shared.specs.Turns.{Seat, FindsHeld, Wins}
+use Rattle.pipe_turns.specs.Log.{calls_of}
+use Rattle.pipe_turns.specs.Turns.{FindsHeld, Wins}
 use Rattle.pipe_shared.specs.Ends.{Writer}
 
--- how many bytes are committed and not consumed by what a seat has seen, none once the reader has completed
-abbrev pub held_in : Seat → ℕ
-held_in seat = length (kept (calls_of seat.seen))
-
--- The free part was granted anew, by an exchange that won the turn.
+-- A segment from home is free as a whole, by an exchange that won the turn.
 pub record GrantsAnew (options : Options) (hint n : ℕ) (old new : Writer) : Type 0 where
   pub short : length old.free < hint
   pub wins : Wins old.seat new.seat
-  pub has : HasRoomFor options (held_in new.seat) (length (bytes_of old.draft)) hint n
+  pub found : PipeHeld
+  pub stands : HoldsRuns found (calls_of new.seat.seen)
+  pub home : found.segments.home ≢ []
+  pub whole : n ≡ options.segment
+  pub greatest : new.hint ≡ max old.hint hint
 
 -- The free part is long enough, and at most a segment, and the draft is as it was. Where it was long enough before, nothing has changed.
 pub record Grants (options : Options) (hint n : ℕ) (old new : Writer) : Type 0 where
@@ -34,6 +34,7 @@ pub record Grants (options : Options) (hint n : ℕ) (old new : Writer) : Type 0
 pub record Stays (old new : Writer) : Type 0 where
   pub draft : new.draft ≡ old.draft
   pub free : new.free ≡ old.free
+  pub hint : new.hint ≡ old.hint
 
 -- The exchange of a writer whose free part is too short found the turn held.
 pub record FindsHeldFor (options : Options) (hint word : ℕ) (old new : Writer) : Type 0 where
@@ -41,12 +42,19 @@ pub record FindsHeldFor (options : Options) (hint word : ℕ) (old new : Writer)
   pub short : length old.free < hint
   pub finds : FindsHeld word old.seat new.seat
 
--- It won the turn, and the pipe has no room for the hint.
+-- It won the turn, and no segment was at home: this is told of where they are, and so much at least is committed and not consumed, or drafted.
 pub record FindsFull (options : Options) (hint : ℕ) (told : Full) (old new : Writer) : Type 0 where
   pub small : hint ≤ options.segment
   pub short : length old.free < hint
   pub wins : Wins old.seat new.seat
-  pub lacks : LacksRoom options (held_in new.seat) (length (bytes_of old.draft)) hint told
+  pub found : PipeHeld
+  pub stands : HoldsRuns found (calls_of new.seat.seen)
+  pub part : WritingState
+  pub draft : part.draft ≡ old.draft
+  pub greatest : part.has.hint ≡ old.hint
+  pub count : part.count ≡ options.segments
+  pub size : part.size ≡ options.segment
+  pub full : IsFull (max old.hint hint) told found part
 
 -- how room is refused: what was drafted and granted stays
 abbrev pub RefusesRoom : Options → ℕ → RoomFault → Writer → Writer → Type 0

@@ -2,13 +2,8 @@
 use Rattle.std.specs.Prelude.{ℕ, List}
 use Rattle.std.specs.Borrow.{Lends, MutBor, Fml, Array, u8}
 use Rattle.pipe_core.specs.Bytes.{overwritten}
-use Rattle.pipe_shared.specs.Rooms.{Drafted}
 use Rattle.pipe_shared.specs.Ends.{Writer}
-use Rattle.pipe_shared.specs.contracts.parts.Writing as draft
 use Rattle.pipe_shared.specs.contracts.ends.WriterEnd as writer
-
-abbrev pub LendsGranted : MutBor Drafted → MutBor (List ℕ) → Fml
-LendsGranted d r = Lends draft.the_row (Array u8 0) d r (λ w. record d.now { free = overwritten d.now.free w })
 
 abbrev pub LendsSpare : MutBor Writer → MutBor (List ℕ) → Fml
 LendsSpare e r = Lends writer.the_row (Array u8 0) e r (λ w. record e.now { free = overwritten e.now.free w })

@@ -1,13 +1,5 @@
 pub mod Options
-pub mod Name
-pub mod Log
-pub mod Heard
-pub mod State
-pub mod Faults
-pub mod Turns
-pub mod Rooms
 pub mod Ends
-pub mod Holding
 pub mod Lending
 pub mod Granting
 pub mod Made

@@ -7,13 +7,14 @@ use Rattle.pipe_core.specs.Progress as progress
 use Rattle.pipe_core.specs.Answers.{Answer, Answers}
 use Rattle.pipe_core.specs.Bytes.{capacity_of, with_draft}
 use Rattle.pipe_core.specs.Pipe.{Pipe, HoldsFor}
-use Rattle.pipe_shared.specs.declared.options.Options.{Options}
-use Rattle.pipe_shared.specs.declared.pipe.Closed.{Closed}
+use Rattle.pipe_state.specs.declared.options.Options.{Options}
+use Rattle.pipe_shared.specs.declared.local.Carried.{Carried}
 use Rattle.pipe_shared.specs.declared.faults.LocalRoomFault.{LocalRoomFault}
 use Rattle.pipe_shared.specs.declared.faults.LocalRoomFault.TheVariants as no_room
-use Rattle.pipe_shared.specs.declared.faults.Full.{Full}
-use Rattle.pipe_shared.specs.Options.{room_of, HasRoomFor, LacksRoom}
-use Rattle.pipe_shared.specs.Log.{calls_of}
+use Rattle.pipe_shared.specs.declared.faults.LocalFull.{LocalFull}
+use Rattle.pipe_state.specs.Options.{room_of}
+use Rattle.pipe_shared.specs.Options.{HasRoomFor, LacksRoom}
+use Rattle.pipe_turns.specs.Log.{calls_of}
 
 -- Its options, and its marks, flags and bytes. Of what is free it has the part that was granted.
 pub record Local : Type 0 where
@@ -62,7 +63,7 @@ pub record LocalGrants (hint n : ℕ) (old new : Local) : Type 0 where
   pub how : (hint ≤ length old.pipe.bytes.free) × (new ≡ old) ⊎ GrantsMore hint n old
 
 -- The pipe has no room for the hint.
-pub record IsFull (hint : ℕ) (told : Full) (p : Local) : Type 0 where
+pub record IsFull (hint : ℕ) (told : LocalFull) (p : Local) : Type 0 where
   pub small : hint ≤ p.options.segment
   pub short : length p.pipe.bytes.free < hint
   pub lacks : LacksRoom p.options (length p.pipe.bytes.held) (length p.pipe.bytes.draft) hint told
@@ -80,5 +81,5 @@ abbrev pub lent_span : Local → List ℕ
 lent_span p = take (unwrap_or p.pipe.control.lent 0) p.pipe.bytes.held
 
 -- What a pipe has carried, for every history that it stood for.
-abbrev pub LocalCloses : Local → Closed → Type 0
+abbrev pub LocalCloses : Local → Carried → Type 0
 LocalCloses p closed = (h : List Call) → HoldsFor p.pipe h → (closed.committed ≡ length (total h)) × (closed.consumed ≡ progress.consumed h)

@@ -4,13 +4,12 @@ ghost use Rattle.std.specs.Prelude.{[], ◌∷◌, IfOk, IfErr};
 ghost use Rattle.turn_cell.specs.Seat.{IsOf, IsIdle};
 ghost use Rattle.pipe_core.specs.History.{CancelRead, CancelFlush};
 ghost use Rattle.pipe_core.specs.Answers.{Woke};
-ghost use Rattle.pipe_shared.specs.Turns.{Refuses, Makes};
+ghost use Rattle.pipe_turns.specs.Turns.{Refuses, Makes};
 
 use crate::ends::Canceller;
-use crate::faults::TryFault;
 use crate::pipe::Pipe;
-use crate::turns;
 use pipe_core::Wake;
+use pipe_turns::TryFault;
 
 impl Pipe {
     /// Ends the pending read, or the next one if none is pending, as `PipeReader.CancelPendingRead` does. No byte is lost.
@@ -20,7 +19,7 @@ impl Pipe {
         ensures made { IfOk result (λ wake. Makes self.now.name.options k.old (CancelRead ∷ []) (Woke wake) k.new) }
         ensures refused { IfErr result (λ fault. Refuses fault k.old k.new) }
     {
-        let wake = turns::cancel_read(&self.cell, &mut k.seat)?;
+        let wake = pipe_turns::cancel_read(&self.cell, &mut k.seat)?;
         self.unpark(wake);
         Ok(wake)
     }
@@ -33,7 +32,7 @@ impl Pipe {
         ensures made { IfOk result (λ wake. Makes self.now.name.options k.old (CancelFlush ∷ []) (Woke wake) k.new) }
         ensures refused { IfErr result (λ fault. Refuses fault k.old k.new) }
     {
-        let wake = turns::cancel_flush(&self.cell, &mut k.seat)?;
+        let wake = pipe_turns::cancel_flush(&self.cell, &mut k.seat)?;
         self.unpark(wake);
         Ok(wake)
     }

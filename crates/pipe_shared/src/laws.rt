@@ -1,17 +1,18 @@
 //! What the calls of an end say of the histories that it has seen. These functions do nothing: what they ensure is the law.
 
-ghost use Rattle.std.specs.Prelude.{ℕ, ◌≡◌, ◌≤◌, ◌++◌, List, reverse};
+ghost use Rattle.std.specs.Prelude.{ℕ, ◌≡◌, ◌≤◌, [], ◌++◌, List, reverse, None};
 ghost use Rattle.std.specs.List.{AllByRecursion};
 ghost use Rattle.turn_cell.specs.History.{made_by};
 ghost use Rattle.pipe_core.specs.History.{Call, seat_of};
 ghost use Rattle.pipe_core.specs.Answers.{Answer};
+ghost use Rattle.pipe_core.specs.Lends.{lend};
 ghost use Rattle.pipe_core.specs.Pipe.{HoldsFor};
-ghost use Rattle.pipe_shared.specs.declared.faults.TryFault.{TryFault};
-ghost use Rattle.pipe_shared.specs.declared.options.Options.{Options};
-ghost use Rattle.pipe_shared.specs.Log.{calls_of};
-ghost use Rattle.pipe_shared.specs.Turns.{Makes, Refuses, Seat, Wins};
-ghost use Rattle.pipe_shared.specs.Ends.{IsEnd};
-ghost use Rattle.pipe_shared.specs.Heard.{CallsBehind, Hears};
+ghost use Rattle.pipe_turns.specs.declared.faults.TryFault.{TryFault};
+ghost use Rattle.pipe_state.specs.declared.options.Options.{Options};
+ghost use Rattle.pipe_turns.specs.Log.{calls_of};
+ghost use Rattle.pipe_turns.specs.Turns.{Makes, Refuses, Seat, Wins};
+ghost use Rattle.pipe_turns.specs.Ends.{IsEnd};
+ghost use Rattle.pipe_turns.specs.Heard.{CallsBehind, Hears};
 ghost use Rattle.pipe_shared.specs.Local.{Local, LocalAnswers, LocalKeeps};
 
 use crate::ends::{Canceller, ReaderDone, ReaderEnd, WriterDone, WriterEnd};
@@ -32,16 +33,24 @@ pub fn local_segments_have_a_byte(pipe: &LocalPipe)
     let _ = &pipe.plain;
 }
 
-/// A writer has the seat 0, and what it has made stands in what it has seen.
+/// A writer has the seat 0, and what it has made stands in what it has seen, which is lawful.
 pub fn writer_has_its_seat(writer: &WriterEnd)
     ensures { IsEnd 0 writer.now.seat }
 {
     let _ = &writer.seat;
 }
 
-/// A reader has the seat 1, and what it has made stands in what it has seen.
+/// A reader has the seat 1, and what it has made stands in what it has seen, which is lawful.
 pub fn reader_has_its_seat(reader: &ReaderEnd)
     ensures { IsEnd 1 reader.now.seat }
+{
+    let _ = &reader.seat;
+}
+
+/// What a reader is lent is what its last read lends, behind all that it has seen. So one that has made no call is lent nothing.
+pub fn reader_is_lent_what_it_has_seen(reader: &ReaderEnd)
+    ensures lent { reader.now.lent ≡ lend (calls_of reader.now.seat.seen) }
+    ensures none { reader.now.seat.own ≡ [] → reader.now.lent ≡ None }
 {
     let _ = &reader.seat;
 }
@@ -60,7 +69,7 @@ pub fn done_reader_has_its_seat(reader: &ReaderDone)
     let _ = &reader.seat;
 }
 
-/// A canceller has the seat 2.
+/// A canceller has the seat 2, in the same way.
 pub fn canceller_has_its_seat(canceller: &Canceller)
     ensures { IsEnd 2 canceller.now }
 {

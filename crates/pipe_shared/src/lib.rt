@@ -4,31 +4,29 @@
 
 mod canceling;
 mod ends;
-mod entry;
 mod faults;
 mod laws;
 mod local;
 mod options;
 mod parking;
-mod parts;
 mod pipe;
 mod reading;
-mod state;
-mod turns;
 mod waiting;
 mod writing;
 
 pub use ends::{
     Canceller, ReaderDone, ReaderEnd, ReaderRefused, WriterDone, WriterEnd, WriterRefused,
 };
-pub use faults::{FlushFault, Full, LocalRoomFault, RoomFault, TryFault};
+pub use faults::{LocalFull, LocalRoomFault, RoomFault};
 pub use laws::{
     canceller_has_its_seat, done_reader_has_its_seat, done_writer_has_its_seat,
     local_history_grows, local_pipe_has_a_history, local_segments_have_a_byte,
-    others_are_heard_first, reader_has_its_seat, segments_have_a_byte, writer_has_its_seat,
+    others_are_heard_first, reader_has_its_seat, reader_is_lent_what_it_has_seen,
+    segments_have_a_byte, writer_has_its_seat,
 };
-pub use local::LocalPipe;
-pub use options::{Field, MakeError, Options};
+pub use local::{Carried, LocalPipe};
+pub use options::{MakeError, MakeRefused};
 pub use parking::Attempts;
-pub use parts::Reading;
 pub use pipe::{Closed, Made, Pipe};
+pub use pipe_state::{Field, Full, Options};
+pub use pipe_turns::{FlushFault, TryFault};

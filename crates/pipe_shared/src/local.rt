@@ -9,15 +9,16 @@ ghost use Rattle.pipe_core.specs.Lends.{lend};
 ghost use Rattle.pipe_core.specs.Answers.{Flushed, Gave, Woke};
 ghost use Rattle.pipe_core.specs.Standing.{MayAdvance};
 ghost use Rattle.pipe_core.specs.Pipe.{HoldsFor};
-ghost use Rattle.pipe_shared.specs.Options.{first_bad};
+ghost use Rattle.pipe_state.specs.Options.{first_bad, room_of};
+ghost use Rattle.pipe_shared.specs.Options.{HasRoomFor, LacksRoom};
 ghost use Rattle.pipe_shared.specs.Made.{RefusesOptions};
 ghost use Rattle.pipe_shared.specs.Local.{LocalKeeps, LocalAnswers, LocalGrants, LocalRefuses, LocalCloses, with_drafted};
 ghost use Rattle.pipe_shared.specs.LocalLending.{LendsLocal};
 
-use crate::faults::LocalRoomFault;
-use crate::options::{MakeError, Options};
-use crate::pipe::Closed;
+use crate::faults::{LocalFull, LocalRoomFault};
+use crate::options::MakeError;
 use pipe_core::{FlushReply, PlainPipe, ReadReply, TooMuch, Wake};
+use pipe_state::Options;
 use span_seq::{Sequence, Spans};
 use std::alloc::{AllocError, Global};
 use std::marker::Model;
@@ -30,6 +31,15 @@ pub struct LocalPipe {
     pub(crate) plain: PlainPipe,
     options: Options,
     granted: usize,
+}
+
+/// What a pipe for one thread has carried.
+#[derive(Clone, Copy, Debug, PartialEq, Eq)]
+pub struct Carried {
+    /// How many bytes were committed before the reader completed.
+    pub committed: u64,
+    /// How many of them the reader has consumed.
+    pub consumed: u64,
 }
 
 impl Model for LocalPipe {
@@ -127,7 +137,7 @@ impl LocalPipe {
         let held = self.plain.held_len();
         let capacity = self.plain.capacity();
         let draft = capacity - held - self.plain.room();
-        match self.options.grant(capacity, held, draft, hint) {
+        match grant(&self.options, capacity, held, draft, hint) {
             Err(full) => Err(LocalRoomFault::Full(full)),
             Ok(granted) => {
                 self.granted = granted;
@@ -246,14 +256,39 @@ impl LocalPipe {
     }
 
     /// What the pipe has carried, once both its ends have completed.
-    pub fn close(self) -> Closed
+    pub fn close(self) -> Carried
         requires writer { IsSome self.pipe.control.ended }
         requires reader { IsSome self.pipe.control.gone }
         ensures { LocalCloses self result }
     {
-        Closed {
+        Carried {
             committed: self.plain.committed(),
             consumed: self.plain.consumed(),
         }
     }
+}
+
+// What is granted for a hint behind so many bytes that are held and drafted, in a pipe that has room for `capacity`: a segment, or what
+// is left where that is less.
+fn grant(
+    options: &Options,
+    capacity: usize,
+    held: usize,
+    draft: usize,
+    hint: usize,
+) -> Result<usize, LocalFull>
+    requires capacity { capacity ≡ room_of options.now }
+    requires within { held + draft ≤ capacity }
+    ensures granted { IfOk result (λ n. HasRoomFor options.now held draft hint n) }
+    ensures refused { IfErr result (λ full. LacksRoom options.now held draft hint full) }
+{
+    let left = capacity - held - draft;
+    if hint > left {
+        return Err(LocalFull {
+            held,
+            draft,
+            capacity,
+        });
+    }
+    Ok(left.min(options.segment))
 }

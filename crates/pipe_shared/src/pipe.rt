@@ -1,28 +1,34 @@
-//! The pipe, how it is made, and how it is closed.
+//! How a pipe is made, and how it is closed.
 
-ghost use Rattle.std.specs.Prelude.{◌≡◌, ◌*◌, ◌^◌, ◌≤◌, [], None, IfOk, IfErr};
+ghost use Rattle.std.specs.Prelude.{◌≡◌, ◌≤◌, [], length, None, IfOk, IfErr};
+ghost use Rattle.std.specs.Vec.{vec_capacity};
 ghost use Rattle.turn_cell.specs.Seat.{IsOf, new_seat};
-ghost use Rattle.pipe_shared.specs.Options.{first_bad};
-ghost use Rattle.pipe_shared.specs.Made.{RefusesOptions, ClosesPipe};
+ghost use Rattle.pipe_state.specs.Options.{first_bad};
+ghost use Rattle.pipe_state.specs.Released.{names_of};
+ghost use Rattle.pipe_state.specs.Segments.{AreSized};
+ghost use Rattle.pipe_state.specs.Lying.{HaveOwnIds};
+ghost use Rattle.pipe_turns.specs.Ends.{ReadsFor, WritesFor};
+ghost use Rattle.pipe_shared.specs.Made.{IsBuilt, RefusesOptions, ClosesPipe};
 
 use crate::ends::{Canceller, ReaderDone, ReaderEnd, WriterDone, WriterEnd};
-use crate::options::{MakeError, Options};
-use crate::parts::{Reading, Writing};
-use crate::state::PipeState;
+use crate::options::{MakeError, MakeRefused};
 use crossbeam_utils::sync::{Parker, Unparker};
 use pipe_core::Wake;
+use pipe_state::{Chain, Options, PipeState, Reading, Writing};
+use pipe_turns::SharedPipe;
+use seg_block::Block;
 use std::alloc::{AllocError, Global};
 use std::marker::Model;
-use turn_cell::TurnCell;
+use turn_cell::{TurnCell, TurnSeat};
 
 /// A byte pipe whose two ends may be used by two threads, and cancelled by a third: .NET's `Pipe`.
 ///
 /// A try call makes one exchange at most, by which it takes the turn or is refused as Busy. It doesn't wait. The call of
 /// the same name without `try_` is that call, made again until it has an answer; its thread may sleep in between, and is
-/// woken by the other end. No call but `make` takes memory, and no lock stands round the pipe.
+/// woken by the other end. No call but `make` takes memory, no byte is copied, and no lock stands round the pipe.
 #[derive(Drop)]
 pub struct Pipe {
-    pub(crate) cell: TurnCell<PipeState>,
+    pub(crate) cell: TurnCell<SharedPipe>,
     pub(crate) options: Options,
     to_reader: Unparker,
     to_writer: Unparker,
@@ -30,104 +36,106 @@ pub struct Pipe {
 
 // Clauses see which pipe it is, and what it was made with as the name of its states.
 impl Model for Pipe {
-    ghost use Rattle.std.specs.Prelude.{◌≡◌, ◌≤◌};
     ghost use Rattle.turn_cell.specs.Seat.{CellState};
-    ghost use Rattle.pipe_shared.specs.Name.{Name};
+    ghost use Rattle.pipe_turns.specs.Name.{Name};
+    ghost use Rattle.pipe_shared.specs.Made.{IsPipe};
 
     ghost Value = { CellState Name };
 
     ghost view = { λ p. p.cell };
 
-    ghost invariant = { λ p. (p.cell.seats ≡ 3) × (p.cell.name.options ≡ p.options) × (1 ≤ p.options.segment) };
+    ghost invariant = { λ p. IsPipe p.cell p.options };
 }
 
-/// What a pipe has carried.
-#[derive(Clone, Copy, Debug, PartialEq, Eq)]
+/// What a pipe has carried, and its blocks.
+#[derive(Drop)]
 pub struct Closed {
     /// How many bytes were committed before the reader completed.
     pub committed: u64,
     /// How many of them the reader has consumed.
     pub consumed: u64,
+    /// All blocks that the pipe was made of, in the list that it was handed.
+    pub blocks: Vec<Block>,
 }
 
 /// A new pipe and its three ends.
 pub type Made = (Pipe, WriterEnd, ReaderEnd, Canceller);
 
+// What `make` puts together.
+#[derive(Drop)]
+struct Built {
+    cell: TurnCell<SharedPipe>,
+    writer: TurnSeat<SharedPipe>,
+    reader: TurnSeat<SharedPipe>,
+    canceller: TurnSeat<SharedPipe>,
+    writing: Writing,
+    reading: Reading,
+}
+
+// How the two ends sleep, and are woken.
+#[derive(Drop)]
+struct Parking {
+    writer: Parker,
+    reader: Parker,
+    to_writer: Unparker,
+    to_reader: Unparker,
+}
+
 impl Pipe {
-    /// A pipe with these options, and its three ends. All its memory is taken here: some four times the bytes that it has
-    /// room for, which are `segments` times `segment`.
-    pub fn make(alloc: Global, options: Options) -> Result<Made, MakeError>
-        requires { options.segments * options.segment ≤ 2 ^ 31 }
+    /// A pipe with these options over these blocks, and its three ends. All its memory but the blocks is taken here: some
+    /// 200 bytes for each.
+    pub fn make(alloc: Global, options: Options, blocks: Vec<Block>) -> Result<Made, MakeRefused>
+        requires count { length blocks.items ≡ options.segments }
+        requires sized { AreSized options.segment (names_of blocks.items) }
+        requires own { HaveOwnIds (names_of blocks.items) }
         ensures good { IfOk result (λ made. first_bad options ≡ None) }
-        ensures refused { IfErr result (λ error. RefusesOptions options error) }
-        ensures pipe { IfOk result (λ made. made.0.name.options ≡ options) }
+        ensures refused { IfErr result (λ refused. RefusesOptions options refused.error) }
+        ensures back { IfErr result (λ refused. names_of refused.blocks.items ≡ names_of blocks.items) }
+        ensures options { IfOk result (λ made. made.0.name.options ≡ options) }
+        ensures blocks { IfOk result (λ made. made.0.name.blocks ≡ names_of blocks.items) }
         ensures seats { IfOk result (λ made. made.0.seats ≡ 3) }
-        ensures writer { IfOk result (λ made. made.1 ≡ record { seat = new_seat made.0 0; draft = []; free = [] }) }
+        ensures writer { IfOk result (λ made. made.1 ≡ record { seat = new_seat made.0 0; draft = []; free = []; hint = 0 }) }
         ensures reader { IfOk result (λ made. made.2 ≡ record { seat = new_seat made.0 1; lent = None }) }
         ensures canceller { IfOk result (λ made. made.3 ≡ new_seat made.0 2) }
     {
         if let Some((field, number)) = options.first_bad() {
-            return Err(MakeError::BadOptions { field, number });
+            return Err(MakeRefused {
+                error: MakeError::BadOptions { field, number },
+                blocks,
+            });
         }
-        match Pipe::build(alloc, options) {
-            Ok(made) => Ok(made),
-            Err(AllocError) => Err(MakeError::OutOfMemory),
+        let Ok(parking) = park(alloc) else {
+            return Err(MakeRefused {
+                error: MakeError::OutOfMemory,
+                blocks,
+            });
+        };
+        match build(alloc, options, blocks) {
+            Ok(built) => Ok(put_together(options, built, parking)),
+            Err(blocks) => Err(MakeRefused {
+                error: MakeError::OutOfMemory,
+                blocks,
+            }),
         }
     }
 
-    // A pipe with options that were found good.
-    fn build(alloc: Global, options: Options) -> Result<Made, AllocError>
-        requires size { options.segments * options.segment ≤ 2 ^ 31 }
-        requires good { first_bad options ≡ None }
-        ensures pipe { IfOk result (λ made. made.0.name.options ≡ options) }
-        ensures seats { IfOk result (λ made. made.0.seats ≡ 3) }
-        ensures writer { IfOk result (λ made. made.1 ≡ record { seat = new_seat made.0 0; draft = []; free = [] }) }
-        ensures reader { IfOk result (λ made. made.2 ≡ record { seat = new_seat made.0 1; lent = None }) }
-        ensures canceller { IfOk result (λ made. made.3 ≡ new_seat made.0 2) }
-    {
-        let size = options.segments * options.segment;
-        let drafts = Writing::make(alloc, size)?;
-        let lends = Reading::make(alloc, size)?;
-        let state = PipeState::make(alloc, options, size)?;
-        let (cell, seats) = match TurnCell::make(alloc, state, 3) {
-            Ok(made) => made,
-            Err(_refused) => return Err(AllocError),
-        };
-        let (first, second, third) = cell.three_new(seats);
-        let writing = Parker::new(alloc)?;
-        let reading = Parker::new(alloc)?;
-        let pipe = Pipe {
-            cell,
-            options,
-            to_reader: reading.unparker().clone()?,
-            to_writer: writing.unparker().clone()?,
-        };
-        let writer = WriterEnd {
-            seat: first,
-            part: drafts,
-            parker: writing,
-        };
-        let reader = ReaderEnd {
-            seat: second,
-            part: lends,
-            parker: reading,
-        };
-        let canceller = Canceller { seat: third };
-        Ok((pipe, writer, reader, canceller))
-    }
-
-    /// What the pipe has carried, once both its ends have completed.
+    /// What the pipe has carried, once both its ends have completed, and all its blocks.
     pub fn close(self, writer: WriterDone, reader: ReaderDone, canceller: Canceller) -> Closed
         requires writer { IsOf self writer }
         requires reader { IsOf self reader }
         requires canceller { IsOf self canceller }
-        ensures { ClosesPipe writer reader canceller result }
+        ensures { ClosesPipe self.name.blocks writer reader canceller result }
     {
         let Pipe { cell, .. } = self;
-        let state = cell.close_three(writer.seat, reader.seat, canceller.seat);
+        let WriterDone { seat: writer } = writer;
+        let ReaderDone { seat: reader } = reader;
+        let SharedPipe { pipe, list, .. } = cell.close_three(writer, reader, canceller.seat);
+        let mut blocks = list;
+        let (committed, consumed) = pipe.close(&mut blocks);
         Closed {
-            committed: state.plain.committed(),
-            consumed: state.plain.consumed(),
+            committed,
+            consumed,
+            blocks,
         }
     }
 
@@ -148,4 +156,113 @@ impl Pipe {
             ..wake
         });
     }
+}
+
+// Means to sleep and to wake, for both ends.
+fn park(alloc: Global) -> Result<Parking, AllocError> {
+    let writer = Parker::new(alloc)?;
+    let reader = Parker::new(alloc)?;
+    let to_writer = writer.unparker().clone()?;
+    let to_reader = reader.unparker().clone()?;
+    Ok(Parking {
+        writer,
+        reader,
+        to_writer,
+        to_reader,
+    })
+}
+
+// The state, with its seats, and the parts of the ends. Where there is no memory for them the blocks come back.
+fn build(alloc: Global, options: Options, blocks: Vec<Block>) -> Result<Built, Vec<Block>>
+    requires good { first_bad options ≡ None }
+    requires count { length blocks.items ≡ options.segments }
+    requires sized { AreSized options.segment (names_of blocks.items) }
+    requires own { HaveOwnIds (names_of blocks.items) }
+    ensures back { IfErr result (λ back. names_of back.items ≡ names_of blocks.items) }
+    ensures built { IfOk result (λ built. IsBuilt options (names_of blocks.items) built) }
+{
+    let mut blocks = blocks;
+    let Ok(chain) = Chain::make(alloc, options.segments) else {
+        return Err(blocks);
+    };
+    let made = PipeState::make(alloc, &mut blocks, options.pause, options.resume);
+    let Ok((pipe, reader, writer)) = made else {
+        return Err(blocks);
+    };
+    let reading = Reading {
+        chain,
+        half: reader,
+    };
+    let Ok(writing) = Writing::make(alloc, options.segments, options.segment, writer) else {
+        pipe.into_blocks(&mut blocks);
+        return Err(blocks);
+    };
+    let state = SharedPipe {
+        pipe,
+        options,
+        list: blocks,
+    };
+    match TurnCell::make(alloc, state, 3) {
+        Ok((cell, seats)) => {
+            let (writer, reader, canceller) = cell.three_new(seats);
+            Ok(Built {
+                cell,
+                writer,
+                reader,
+                canceller,
+                writing,
+                reading,
+            })
+        }
+        Err(refused) => Err(blocks_of(refused.state)),
+    }
+}
+
+// The blocks of a state whose segments are at home.
+fn blocks_of(state: SharedPipe) -> Vec<Block>
+    requires empty { state.list.items ≡ [] }
+    requires room { length state.pipe.segments.home ≤ vec_capacity state.list }
+    ensures { names_of result.items ≡ state.pipe.segments.home }
+{
+    let SharedPipe { pipe, list, .. } = state;
+    let mut blocks = list;
+    pipe.into_blocks(&mut blocks);
+    blocks
+}
+
+// The pipe and its ends, of what was built.
+fn put_together(options: Options, built: Built, parking: Parking) -> Made
+    requires good { first_bad options ≡ None }
+    requires built { IsBuilt options built.cell.name.blocks built }
+    ensures pipe { result.0 ≡ built.cell }
+    ensures writer { result.1 ≡ record { seat = new_seat built.cell 0; draft = []; free = []; hint = 0 } }
+    ensures reader { result.2 ≡ record { seat = new_seat built.cell 1; lent = None } }
+    ensures canceller { result.3 ≡ new_seat built.cell 2 }
+{
+    let Built {
+        cell,
+        writer,
+        reader,
+        canceller,
+        writing,
+        reading,
+    } = built;
+    let pipe = Pipe {
+        cell,
+        options,
+        to_reader: parking.to_reader,
+        to_writer: parking.to_writer,
+    };
+    let writer = WriterEnd {
+        seat: writer,
+        part: writing,
+        parker: parking.writer,
+    };
+    let reader = ReaderEnd {
+        seat: reader,
+        part: reading,
+        lending: false,
+        parker: parking.reader,
+    };
+    (pipe, writer, reader, Canceller { seat: canceller })
 }

@@ -5,15 +5,14 @@ ghost use Rattle.turn_cell.specs.Seat.{IsOf, IsIdle};
 ghost use Rattle.pipe_core.specs.History.{Read, Advance, EndReader};
 ghost use Rattle.pipe_core.specs.Lends.{lend};
 ghost use Rattle.pipe_core.specs.Answers.{Gave, Woke};
-ghost use Rattle.pipe_shared.specs.Log.{calls_of};
-ghost use Rattle.pipe_shared.specs.State.{len_of};
-ghost use Rattle.pipe_shared.specs.Turns.{Refuses, Makes};
+ghost use Rattle.pipe_turns.specs.Log.{calls_of};
+ghost use Rattle.pipe_turns.specs.Lends.{is_lending, len_of};
+ghost use Rattle.pipe_turns.specs.Turns.{Refuses, Makes};
 
 use crate::ends::{ReaderDone, ReaderEnd, ReaderRefused};
-use crate::faults::TryFault;
 use crate::pipe::Pipe;
-use crate::turns;
 use pipe_core::{ReadReply, Wake};
+use pipe_turns::TryFault;
 use std::marker::Brand;
 
 impl Pipe {
@@ -50,7 +49,8 @@ impl Pipe {
         ensures refused { IfErr result (λ fault. Refuses fault r.old.seat r.new.seat) }
         ensures kept { IfErr result (λ _. r.new.lent ≡ r.old.lent) }
     {
-        let answer = turns::read::<Brand>(&self.cell, &mut r.seat, n, &mut r.part)?;
+        let answer = pipe_turns::read::<Brand>(&self.cell, &mut r.seat, n, &mut r.part)?;
+        r.lending = lends(answer.0);
         self.unpark(answer.1);
         Ok(answer)
     }
@@ -66,8 +66,8 @@ impl Pipe {
         ensures refused { IfErr result (λ fault. Refuses fault r.old.seat r.new.seat) }
         ensures kept { IfErr result (λ _. r.new.lent ≡ r.old.lent) }
     {
-        let wake = turns::advance::<Brand>(&self.cell, &mut r.seat, c, e)?;
-        r.part.end();
+        let wake = pipe_turns::advance::<Brand>(&self.cell, &mut r.seat, c, e, &mut r.part)?;
+        r.lending = false;
         self.unpark_for_room(wake);
         Ok(wake)
     }
@@ -88,17 +88,33 @@ impl Pipe {
         let ReaderEnd {
             mut seat,
             part,
+            lending,
             parker,
         } = r;
-        match turns::end_reader::<Brand>(&self.cell, &mut seat, code) {
+        match pipe_turns::end_reader::<Brand>(&self.cell, &mut seat, part, code) {
             Ok(wake) => {
                 self.unpark_for_room(wake);
                 Ok((ReaderDone { seat }, wake))
             }
-            Err(fault) => Err(ReaderRefused {
-                end: ReaderEnd { seat, part, parker },
+            Err((part, fault)) => Err(ReaderRefused {
+                end: ReaderEnd {
+                    seat,
+                    part,
+                    lending,
+                    parker,
+                },
                 fault,
             }),
         }
+    }
+}
+
+// Whether a read lends, by its reply.
+fn lends(reply: ReadReply) -> bool
+    ensures { result ≡ is_lending reply }
+{
+    match reply {
+        ReadReply::Ready { .. } => true,
+        ReadReply::Pending { .. } => false,
     }
 }

@@ -7,17 +7,18 @@ ghost use Rattle.pipe_core.specs.declared.reply.Wake.{Wake};
 ghost use Rattle.pipe_core.specs.History.{Advance, EndReader, bytes_of, closing};
 ghost use Rattle.pipe_core.specs.Progress.{total};
 ghost use Rattle.pipe_shared.specs.declared.faults.RoomFault.TheVariants.{TooLarge};
-ghost use Rattle.pipe_shared.specs.declared.faults.FlushFault.TheVariants.{TooMuch};
-ghost use Rattle.pipe_shared.specs.Log.{calls_of};
-ghost use Rattle.pipe_shared.specs.State.{len_of};
+ghost use Rattle.pipe_turns.specs.declared.faults.FlushFault.TheVariants.{TooMuch};
+ghost use Rattle.pipe_turns.specs.Log.{calls_of};
+ghost use Rattle.pipe_turns.specs.Lends.{len_of};
 ghost use Rattle.pipe_shared.specs.Waiting.{AtLast};
 ghost use Rattle.pipe_shared.specs.Attempts.{TriesRoom, TriesCompletion, TriesRead, TriesToEnd, waits_for_room, waits_to_complete, waits_to_read, waits_for_turn, FlushesAtLast, completed, without_lend, FlushesOn, ReadsOn, CallsOnce};
 
 use crate::ends::{ReaderDone, ReaderEnd, ReaderRefused, WriterDone, WriterEnd, WriterRefused};
-use crate::faults::{FlushFault, RoomFault};
+use crate::faults::RoomFault;
 use crate::parking::Attempts;
 use crate::pipe::Pipe;
 use pipe_core::{FlushReply, ReadReply};
+use pipe_turns::FlushFault;
 use std::sync::Wait;
 
 impl Pipe {
@@ -100,7 +101,7 @@ impl Pipe {
             (back.fault ≡ TooMuch (length (total (calls_of back.end.seat.seen))))
             × (2 ^ 62 < length (total (calls_of back.end.seat.seen)) + length (bytes_of w.draft))) }
         ensures kept { IfErr result (λ back.
-            (back.end.draft ≡ w.draft) × (back.end.free ≡ w.free) × (back.end.seat.own ≡ w.seat.own)) }
+            (back.end.draft ≡ w.draft) × (back.end.free ≡ w.free) × (back.end.hint ≡ w.hint) × (back.end.seat.own ≡ w.seat.own)) }
     {
         let attempts = Attempts::new();
         let mut end = w;

@@ -4,14 +4,14 @@ ghost use Rattle.std.specs.Prelude.{◌≡◌, ◌<◌, ◌≤◌, [], ◌∷◌
 ghost use Rattle.turn_cell.specs.Seat.{IsOf, IsIdle};
 ghost use Rattle.pipe_core.specs.History.{Commit, bytes_of, closing};
 ghost use Rattle.pipe_core.specs.Answers.{Flushed, Woke};
-ghost use Rattle.pipe_shared.specs.Turns.{RefusesFlush, Makes};
+ghost use Rattle.pipe_turns.specs.Turns.{RefusesFlush, Makes};
 ghost use Rattle.pipe_shared.specs.Granting.{RefusesRoom, Grants};
 
 use crate::ends::{WriterDone, WriterEnd, WriterRefused};
-use crate::faults::{FlushFault, RoomFault};
+use crate::faults::RoomFault;
 use crate::pipe::Pipe;
-use crate::turns;
 use pipe_core::{FlushReply, Wake};
+use pipe_turns::FlushFault;
 use std::marker::Brand;
 use turn_cell::Busy;
 
@@ -36,7 +36,7 @@ impl Pipe {
         self.grant(w, hint)
     }
 
-    // Grants a free part of at least that many bytes, which the present one hasn't.
+    // Grants another segment, for want of room for the hint in the one that the writer fills.
     fn grant(&self, w: &mut WriterEnd, hint: usize) -> Result<usize, RoomFault>
         requires pipe { IsOf self.now w.old.seat }
         requires some { 1 ≤ hint }
@@ -46,18 +46,11 @@ impl Pipe {
         ensures granted { IfOk result (λ n. Grants self.now.name.options hint n w.old w.new) }
         ensures refused { IfErr result (λ fault. RefusesRoom self.now.name.options hint fault w.old w.new) }
     {
-        let held = match turns::look(&self.cell, &mut w.seat) {
-            Ok(held) => held,
-            Err(Busy { word }) => return Err(RoomFault::Busy { word }),
-        };
-        let capacity = w.part.size();
-        let draft = w.part.draft_len();
-        let granted = match self.options.grant(capacity, held, draft, hint) {
-            Ok(granted) => granted,
-            Err(full) => return Err(RoomFault::Full(full)),
-        };
-        w.part.grant(granted);
-        Ok(granted)
+        match pipe_turns::room(&self.cell, &mut w.seat, hint, &mut w.part) {
+            Ok(Ok(granted)) => Ok(granted),
+            Ok(Err(full)) => Err(RoomFault::Full(full)),
+            Err(Busy { word }) => Err(RoomFault::Busy { word }),
+        }
     }
 
     /// Commits the draft, as `PipeWriter.FlushAsync` does without waiting. A flush of nothing asks again whether the
@@ -69,11 +62,11 @@ impl Pipe {
             Makes self.now.name.options w.old.seat (Commit w.old.draft ∷ []) (Flushed answer.0 answer.1) w.new.seat) }
         ensures draft { IfOk result (λ _. w.new.draft ≡ []) }
         ensures free { IfOk result (λ _. length w.new.free ≡ length w.old.free) }
+        ensures hint { w.new.hint ≡ w.old.hint }
         ensures refused { IfErr result (λ fault. RefusesFlush (length (bytes_of w.old.draft)) fault w.old.seat w.new.seat) }
         ensures kept { IfErr result (λ _. (w.new.draft ≡ w.old.draft) × (w.new.free ≡ w.old.free)) }
     {
-        let answer = turns::commit::<Brand>(&self.cell, &mut w.seat, &w.part)?;
-        w.part.clear();
+        let answer = pipe_turns::commit::<Brand>(&self.cell, &mut w.seat, &mut w.part)?;
         self.unpark(answer.1);
         Ok(answer)
     }
@@ -86,19 +79,19 @@ impl Pipe {
         ensures made { IfOk result (λ done. Makes self.now.name.options w.seat (closing w.draft code) (Woke done.1) done.0) }
         ensures back { IfErr result (λ back. IsIdle self.now back.end.seat) }
         ensures refused { IfErr result (λ back. RefusesFlush (length (bytes_of w.draft)) back.fault w.seat back.end.seat) }
-        ensures kept { IfErr result (λ back. (back.end.draft ≡ w.draft) × (back.end.free ≡ w.free)) }
+        ensures kept { IfErr result (λ back. (back.end.draft ≡ w.draft) × (back.end.free ≡ w.free) × (back.end.hint ≡ w.hint)) }
     {
         let WriterEnd {
             mut seat,
             part,
             parker,
         } = w;
-        match turns::complete::<Brand>(&self.cell, &mut seat, &part, code) {
+        match pipe_turns::complete::<Brand>(&self.cell, &mut seat, part, code) {
             Ok(wake) => {
                 self.unpark(wake);
                 Ok((WriterDone { seat }, wake))
             }
-            Err(fault) => Err(WriterRefused {
+            Err((part, fault)) => Err(WriterRefused {
                 end: WriterEnd { seat, part, parker },
                 fault,
             }),

@@ -11,7 +11,7 @@ use Rattle.pipe_core.specs.History.{Call, Commit, EndWriter, Read, Advance, EndR
 use Rattle.pipe_core.specs.Progress.{total, consumed}
 use Rattle.pipe_core.specs.Legal.{IsLegal, MayFollow}
 use Rattle.pipe_core.proofs.OrderLemmas.{total_commit}
-use Rattle.pipe_shared.specs.declared.faults.TryFault.{TryFault}
+use Rattle.pipe_turns.specs.declared.faults.TryFault.{TryFault}
 use Rattle.relay_engine.specs.Later.{CallsLater, HearsLater, Later}
 use Rattle.relay_engine.specs.Drainer.{DrainState, IsDrained, is_success, is_whole, translated}
 use Rattle.relay_engine.specs.Draining.{AdvancesTo, DrainingState, Owes, StandsBehind}

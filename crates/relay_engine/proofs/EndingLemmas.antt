@@ -10,11 +10,12 @@ use Rattle.pipe_core.specs.declared.reply.Wake.{Wake}
 use Rattle.pipe_core.specs.History.{Run, Call, Commit, EndWriter, Read, Advance, EndReader, CancelRead, CancelFlush, bytes_of, closing, writer_end, seat_of}
 use Rattle.pipe_core.specs.Legal.{IsLegal}
 use Rattle.pipe_core.specs.Answers.{Woke}
-use Rattle.pipe_shared.specs.declared.options.Options.{Options}
-use Rattle.pipe_shared.specs.Log.{calls_of, IsLawful}
-use Rattle.pipe_shared.specs.Heard.{CallsBehind}
-use Rattle.pipe_shared.specs.Turns.{Seat}
-use Rattle.pipe_shared.specs.Ends.{Writer, IsEnd}
+use Rattle.pipe_state.specs.declared.options.Options.{Options}
+use Rattle.pipe_turns.specs.Log.{calls_of}
+use Rattle.pipe_turns.specs.Heard.{CallsBehind}
+use Rattle.pipe_turns.specs.Turns.{Seat}
+use Rattle.pipe_turns.specs.Ends.{IsEnd}
+use Rattle.pipe_shared.specs.Ends.{Writer}
 use Rattle.relay_engine.specs.Filler.{written}
 use Rattle.relay_engine.specs.Tally.{Spends, tally_of}
 use Rattle.relay_engine.specs.PipeFiller.{Completes, MayClose, seen_by}
@@ -67,21 +68,21 @@ commits_alone (call ∷ h) going = ap (filter (λ call. seat_of call == 0)) (rev
     each CancelFlush going rest = append-nil (filter (λ call. seat_of call == 0) (reverse h)) ∙ rest going
 
 -- A seat that has completed has made commits, and then its completion.
-pub own_is : (seat : Seat) (code : ℕ) (found : List Call) → IsEnd 0 seat → IsLawful seat.seen → calls_of seat.seen ≡ EndWriter code ∷ found → seat.own ≡ map (λ runs. Commit runs) (commits_of found) ++ EndWriter code ∷ []
-own_is seat code found end lawful seen =
-    let legal : IsLegal (EndWriter code ∷ found) = subst IsLegal seen lawful.legal in
+pub own_is : (seat : Seat) (code : ℕ) (found : List Call) → IsEnd 0 seat → calls_of seat.seen ≡ EndWriter code ∷ found → seat.own ≡ map (λ runs. Commit runs) (commits_of found) ++ EndWriter code ∷ []
+own_is seat code found end seen =
+    let legal : IsLegal (EndWriter code ∷ found) = subst IsLegal seen end.lawful.legal in
     let order : map (λ (e : ℕ × Call). e.1) seat.seen ≡ reverse found ++ EndWriter code ∷ [] =
     sym (reverse-reverse (map (λ (e : ℕ × Call). e.1) seat.seen)) ∙ ap reverse seen ∙ reverse-append (EndWriter code ∷ []) found in
     sym end.own
-    ∙ mine seat.seen lawful.seats
+    ∙ mine seat.seen end.lawful.seats
     ∙ ap (filter (λ call. seat_of call == 0)) order
     ∙ filter-append (λ call. seat_of call == 0) (reverse found) (EndWriter code ∷ [])
     ∙ ap (λ (x : List Call). x ++ EndWriter code ∷ []) (commits_alone found legal.1)
 
 -- ---- the completion of a writer that has drafted nothing
 
-pub completes : (options : Options) (code : ℕ) (wake : Wake) (w : Writer) (seat : Seat) → MayClose w → CallsBehind options 0 (seen_by w) (closing w.draft code) (Woke wake) (calls_of seat.seen) → IsLawful seat.seen → IsEnd 0 seat → Spends 0 (tally_of w.seat) (tally_of seat) → Completes code w seat
-completes options code wake w seat may b lawful end spent =
+pub completes : (options : Options) (code : ℕ) (wake : Wake) (w : Writer) (seat : Seat) → MayClose w → CallsBehind options 0 (seen_by w) (closing w.draft code) (Woke wake) (calls_of seat.seen) → IsEnd 0 seat → Spends 0 (tally_of w.seat) (tally_of seat) → Completes code w seat
+completes options code wake w seat may b end spent =
     let found = b.heard ++ seen_by w in
     let seen : calls_of seat.seen ≡ EndWriter code ∷ found = b.seen ∙ ap (λ (draft : List Run). closing draft code ++ found) may.settled in
     record {
@@ -90,7 +91,7 @@ completes options code wake w seat may b lawful end spent =
       seen = seen;
       legal = b.legal;
       commits = commits_of found;
-      own = own_is seat code found end lawful seen;
+      own = own_is seat code found end seen;
       bytes = bytes_are found;
       spent = spent;
     }

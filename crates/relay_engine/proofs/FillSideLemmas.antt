@@ -7,12 +7,12 @@ use Rattle.relay_model.specs.declared.ending.FillEnd.{FillEnd}
 use Rattle.relay_model.specs.declared.ending.FillEnd.TheVariants as taking
 use Rattle.relay_model.specs.Run.{IsTaken}
 use Rattle.turn_cell.specs.Seat.{CellState, IsIdle}
-use Rattle.pipe_shared.specs.declared.faults.Full as room
-use Rattle.pipe_shared.specs.declared.faults.TryFault.{TryFault}
-use Rattle.pipe_shared.specs.declared.faults.TryFault.TheVariants as try
-use Rattle.pipe_shared.specs.Name.{Name}
+use Rattle.pipe_state.specs.declared.full.Full as room
+use Rattle.pipe_turns.specs.declared.faults.TryFault.{TryFault}
+use Rattle.pipe_turns.specs.declared.faults.TryFault.TheVariants as try
+use Rattle.pipe_turns.specs.Name.{Name}
 use Rattle.pipe_shared.specs.Ends.{Writer}
-use Rattle.pipe_shared.specs.Turns.{Seat}
+use Rattle.pipe_turns.specs.Turns.{Seat}
 use Rattle.relay_engine.specs.PipeFiller.{CompletesBy, FillerState, Follows, HasEnded, IsUnused, StepsFrom, StepsOn, all_of, filling_of, seen_by}
 use Rattle.relay_engine.specs.WriterEnds.{FindsNoRoom, HasWritten, IsOthers, RefusesWriter, drafting}
 use Rattle.relay_engine.specs.Sides.{HasFilled}

@@ -12,8 +12,8 @@ use Rattle.pipe_core.specs.declared.reply.FlushReply.{FlushReply}
 use Rattle.pipe_core.specs.declared.reply.FlushReply.TheVariants as flush
 use Rattle.pipe_core.specs.History.{Run, Call, Commit, EndWriter, Read, Advance, EndReader, CancelRead, CancelFlush, bytes_of, seat_of}
 use Rattle.pipe_core.specs.Flushes.{reply_to_commit}
-use Rattle.pipe_shared.specs.declared.options.Options.{Options}
-use Rattle.pipe_shared.specs.declared.faults.TryFault.{TryFault}
+use Rattle.pipe_state.specs.declared.options.Options.{Options}
+use Rattle.pipe_turns.specs.declared.faults.TryFault.{TryFault}
 use Rattle.relay_engine.specs.Ends.{GivesOneMore}
 use Rattle.relay_engine.specs.Filler.{written}
 use Rattle.relay_engine.specs.Later.{Later, CallsLater, HearsLater}

@@ -1,5 +1,5 @@
 -- How much a relay on one thread takes behind a bad frame.
-use Rattle.std.proofs.Common.{◌≡◌, ◌<◌, ◌≤◌, ◌+◌, ℕ, false, List, [], ◌++◌, length, take, drop, Option, Some, None, sym, ap, ◌∙◌, subst, append_assoc, append-nil, arith}
+use Rattle.std.proofs.Common.{◌≡◌, ◌<◌, ◌≤◌, ◌+◌, ℕ, false, List, [], ◌++◌, length, take, drop, Option, Some, None, refl, sym, ap, ◌∙◌, subst, append_assoc, append-nil, arith}
 use Rattle.std.specs.Prelude.{IfSome}
 use Rattle.std.proofs.lemmas.List.{length-append, take-append-drop, take-append-le, take_all}
 use Rattle.std.specs.Io.KnownBytes.{Consumes}
@@ -50,32 +50,32 @@ none_bad job d h text same drained all_seen =
 pub nothing_in_time : (job : Job) → (translation job [] false).verdict ≡ Open → IsInTime job []
 nothing_in_time job open_yet = λ k within. front_has_none job [] k (open_has_none job [] open_yet)
 
-one_dropped : (ending : FillEnd) (dropped : List ℕ) → IsDropped ending dropped → length dropped ≤ 1
-one_dropped taking.End dropped is = omega (arith, ap length is)
-one_dropped taking.Fault dropped is = omega (arith, ap length is)
-one_dropped taking.Long dropped is = omega (arith, is)
-one_dropped (taking.Gone code) dropped is = omega (arith, ap length is)
+-- what left the source was taken, up to the limit
+within_taken : (ending : FillEnd) (limit : ℕ) (x dropped : List ℕ) (n : ℕ) → IsDropped ending dropped → (ending ≡ taking.Long → length x ≡ limit) → n ≤ length x + length dropped → n ≤ limit → n ≤ length x
+within_taken taking.End limit x dropped n is long lost most = omega (arith, ap length is, lost)
+within_taken taking.Fault limit x dropped n is long lost most = omega (arith, ap length is, lost)
+within_taken taking.Long limit x dropped n is long lost most = omega (arith, long refl, most)
+within_taken (taking.Gone code) limit x dropped n is long lost most = omega (arith, ap length is, lost)
 
 -- what that says of the source
 pub stops : (job : Job) (x : List ℕ) (ending : FillEnd) (before after : SourceState) → IsInTime job x → IsTaken job.limit x ending before after → StopsInTime job before after
 stops job x ending before after so taken = by_left before.left after.left taken.given
   where
-    most : length taken.dropped ≤ 1
-    most = one_dropped ending taken.dropped taken.dropping
-
-    by_left : (b a : Option (List ℕ)) → Consumes b a (x ++ taken.dropped) → IfSome b (λ input. IfSome a (λ left. (k : ℕ) → k + job.seg + length left < length input → HasNoBad job (take k input)))
+    by_left : (b a : Option (List ℕ)) → Consumes b a (x ++ taken.dropped)
+        → IfSome b (λ input. IfSome a (λ left. (k : ℕ) → k + job.seg + length left ≤ length input → k + job.seg ≤ job.limit → HasNoBad job (take k input)))
     by_left None a given = tt
     by_left (Some input) None given = tt
-    by_left (Some input) (Some left) given = λ k less.
+    by_left (Some input) (Some left) given = λ k lost most.
         let parts : input ≡ x ++ (taken.dropped ++ left) = given ∙ append_assoc x taken.dropped left in
         let size = ap length parts ∙ length-append x (taken.dropped ++ left) ∙ ap (λ (n : ℕ). length x + n) (length-append taken.dropped left) in
-        let within : k + job.seg ≤ length x = omega (arith, less, size, most) in
+        let within : k + job.seg ≤ length x = within_taken ending job.limit x taken.dropped (k + job.seg) taken.dropping taken.long (omega (arith, lost, size)) most in
         subst (λ (l : List ℕ). HasNoBad job l) (sym (ap (λ (l : List ℕ). take k l) parts ∙ take-append-le k x (taken.dropped ++ left) (omega (arith, within)))) (so k within)
 
 -- nothing was taken
-pub stops_unread : (job : Job) (s : SourceState) → StopsInTime job s s
-stops_unread job s = by_left s.left
+pub stops_unread : (job : Job) (s : SourceState) → 0 < job.seg → StopsInTime job s s
+stops_unread job s some = by_left s.left
   where
-    by_left : (left : Option (List ℕ)) → IfSome left (λ input. IfSome left (λ rest. (k : ℕ) → k + job.seg + length rest < length input → HasNoBad job (take k input)))
+    by_left : (left : Option (List ℕ))
+        → IfSome left (λ input. IfSome left (λ rest. (k : ℕ) → k + job.seg + length rest ≤ length input → k + job.seg ≤ job.limit → HasNoBad job (take k input)))
     by_left None = tt
-    by_left (Some input) = λ k less. absurd (omega (arith, less))
+    by_left (Some input) = λ k lost most. absurd (omega (arith, lost, some))

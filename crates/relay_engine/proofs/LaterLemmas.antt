@@ -1,17 +1,12 @@
 -- What an end of a pipe comes to by calls: how histories go on, one behind the other, and how often it has turned to its pipe.
 use Rattle.std.specs.List.{AllByRecursion}
 use Rattle.std.specs.Prelude.{option_map}
-use Rattle.std.proofs.Common.{◌≡◌, ℕ, List, [], ◌∷◌, ◌++◌, Option, Some, None, IsNone, refl, sym, ap, ◌∙◌, append_assoc, length, reverse, arith, ◌*◌}
+use Rattle.std.proofs.Common.{◌≡◌, ℕ, List, [], ◌∷◌, ◌++◌, Option, Some, None, IsNone, refl, sym, ap, ◌∙◌, append_assoc, length, reverse, arith}
 use Rattle.std.proofs.lemmas.List.{length-append}
 use Rattle.pipe_core.specs.History.{Call}
-use Rattle.turn_cell.specs.Seat.{after_find}
-use Rattle.pipe_shared.specs.Log.{IsLawful, calls_of}
 use Rattle.pipe_core.specs.Answers.{Answer}
-use Rattle.pipe_shared.specs.declared.options.Options.{Options}
-use Rattle.pipe_shared.specs.Turns.{Makes, Seat, Wins}
-use Rattle.pipe_shared.specs.Ends.{IsEnd}
-use Rattle.pipe_shared.specs.Heard.{Hears}
-use Rattle.pipe_shared.proofs.HeardLemmas.{won}
+use Rattle.pipe_state.specs.declared.options.Options.{Options}
+use Rattle.pipe_turns.specs.Turns.{Makes, Seat, Wins}
 use Rattle.relay_engine.specs.Later.{Later}
 use Rattle.relay_engine.specs.Tally.{Spends, tally_of}
 
@@ -50,13 +45,6 @@ later_on others h k m first second = record {
 
 pub later_with : (others : Call → Type 0) (h k : List Call) (call : Call) → others call → Later others h k → Later others h (call ∷ k)
 later_with others h k call is later = record { between = call ∷ later.between; all = (is, later.all); is = ap (λ (x : List Call). call ∷ x) later.is }
-
--- what an end that has made no entry has seen is others' calls
-pub heard_all : (number : ℕ) (seat : Seat) → IsEnd number seat → seat.own ≡ [] → IsLawful seat.seen → Hears number [] (calls_of seat.seen)
-heard_all number seat end none lawful =
-    won number (record seat { seen = []; own = [] }) (record (after_find (2 * length seat.seen) seat) { own = [] })
-    (record { numbered = end.numbered; idle = end.idle; own = refl })
-    (record { after = refl; begins = (seat.seen, refl); own = rw end.numbered (end.own ∙ none); lawful = lawful })
 
 -- the one exchange won the turn
 pub wins_spends : (old new : Seat) → Wins old new → Spends 1 (tally_of old) (tally_of new)

@@ -20,6 +20,7 @@ mod PumpLemmas
 mod ReadOnLemmas
 mod ReaderEndLemmas
 mod ReportLemmas
+mod SpendingLemmas
 mod TellLemmas
 mod WriteLemmas
 mod WriterEndLemmas

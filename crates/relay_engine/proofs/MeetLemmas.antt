@@ -10,8 +10,8 @@ use Rattle.pipe_core.specs.History.{Run, Call, Commit, EndWriter, Read, Advance,
 use Rattle.pipe_core.specs.Progress.{total}
 use Rattle.pipe_core.specs.Legal.{IsLegal}
 use Rattle.pipe_core.proofs.OrderLemmas.{total_commit}
-use Rattle.pipe_shared.specs.Log.{calls_of}
-use Rattle.pipe_shared.proofs.StateLemmas.{calls_of-append}
+use Rattle.pipe_turns.specs.Log.{calls_of}
+use Rattle.pipe_turns.proofs.StateLemmas.{calls_of-append}
 use Rattle.relay_engine.specs.Filler.{written, fill_code}
 use Rattle.relay_engine.proofs.LaterLemmas.{none_is}
 use Rattle.edge_core.specs.Device.{SourceState, SinkState}
@@ -21,8 +21,9 @@ use Rattle.relay_model.specs.declared.ending.FillEnd.TheVariants as taking
 use Rattle.relay_model.specs.declared.ending.Report.{Report}
 use Rattle.relay_model.specs.Run.{IsReported}
 use Rattle.pipe_shared.specs.declared.pipe.Closed.{Closed}
-use Rattle.pipe_shared.specs.Turns.{Seat}
+use Rattle.pipe_turns.specs.Turns.{Seat}
 use Rattle.pipe_shared.specs.Made.{ClosesPipe}
+use Rattle.pipe_state.specs.Released.{BlockName}
 use Rattle.relay_engine.specs.Drainer.{end_code}
 use Rattle.relay_engine.specs.Sides.{HasFilled}
 use Rattle.relay_engine.specs.Pumped.{HasPumped}
@@ -174,9 +175,9 @@ saw x fill code all behind_reader found behind_writer h legal taken by_reader by
         })
 
 -- The two sides of a pipe that is closed.
-met : (limit : ℕ) (fill : FillEnd) (writer reader canceller : Seat) (closed : Closed) (told code : ℕ) (found : List Call) (sb s : SourceState) → (filled : HasFilled limit fill writer told sb s) → calls_of reader.seen ≡ EndReader code ∷ found
-    → ClosesPipe writer reader canceller closed → SawAll filled.taken fill found ⊎ SawFront filled.taken found
-met limit fill writer reader canceller closed told code found sb s filled seen closes =
+met : (limit : ℕ) (fill : FillEnd) (writer reader canceller : Seat) (blocks : List BlockName) (closed : Closed) (told code : ℕ) (found : List Call) (sb s : SourceState) → (filled : HasFilled limit fill writer told sb s) → calls_of reader.seen ≡ EndReader code ∷ found
+    → ClosesPipe blocks writer reader canceller closed → SawAll filled.taken fill found ⊎ SawFront filled.taken found
+met limit fill writer reader canceller blocks closed told code found sb s filled seen closes =
     let reading = closes.reader_agrees.begins in
     let writing = closes.writer_agrees.begins in
     let own = closes.writer_agrees.own ∙ filled.own in
@@ -190,12 +191,12 @@ met limit fill writer reader canceller closed told code found sb s filled seen c
     (ap (λ (l : List Call). calls_of writing.0 ++ l) (sym filled.seen) ∙ sym (calls_of-append writer.seen writing.0) ∙ ap calls_of writing.1)
     filled.gone
 
-pub settled : (job : Job) (report : Report) (writer reader canceller : Seat) (closed : Closed) (sb s : SourceState) (kb k : SinkState) → job.limit ≤ 2 ^ 40 → HasPumped job report writer reader sb s kb k → ClosesPipe writer reader canceller closed → IsReported job report sb s kb k
-settled job report writer reader canceller closed sb s kb k limit pumped closes =
+pub settled : (job : Job) (report : Report) (writer reader canceller : Seat) (blocks : List BlockName) (closed : Closed) (sb s : SourceState) (kb k : SinkState) → job.limit ≤ 2 ^ 40 → HasPumped job report writer reader sb s kb k → ClosesPipe blocks writer reader canceller closed → IsReported job report sb s kb k
+settled job report writer reader canceller blocks closed sb s kb k limit pumped closes =
     let filled = pumped.filled in
     let drained = pumped.drained in
     let stands : HoldsOfAll job filled.taken pumped.filling drained.found drained.text pumped.draining =
-    elim (met job.limit pumped.filling writer reader canceller closed report.taken (end_code pumped.draining) drained.found sb s filled drained.seen closes) [
+    elim (met job.limit pumped.filling writer reader canceller blocks closed report.taken (end_code pumped.draining) drained.found sb s filled drained.seen closes) [
       | inl saw ↦ of_all job report.frames report.written filled.taken pumped.filling drained.found drained.text pumped.draining drained.concludes saw
       | inr saw ↦ of_front job report.frames report.written filled.taken pumped.filling drained.found drained.text pumped.draining drained.concludes saw
     ] in

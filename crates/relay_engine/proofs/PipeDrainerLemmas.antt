@@ -7,17 +7,19 @@ use Rattle.edge_core.proofs.DeviceLemmas.{Takes-trans}
 use Rattle.turn_cell.specs.Seat.{CellState, IsIdle}
 use Rattle.pipe_core.specs.History.{Call, EndReader}
 use Rattle.pipe_core.specs.Legal.{IsLegal}
-use Rattle.pipe_shared.specs.declared.faults.TryFault.{TryFault}
-use Rattle.pipe_shared.specs.declared.faults.TryFault.TheVariants as try
-use Rattle.pipe_shared.specs.Log.{IsLawful, calls_of}
+use Rattle.pipe_turns.specs.declared.faults.TryFault.{TryFault}
+use Rattle.pipe_turns.specs.declared.faults.TryFault.TheVariants as try
+use Rattle.pipe_turns.specs.Log.{calls_of}
 use Rattle.frame_grammar.specs.declared.job.Job.{Job}
-use Rattle.pipe_shared.specs.Name.{Name}
-use Rattle.pipe_shared.specs.Heard.{CallsBehind, Hears}
-use Rattle.pipe_shared.specs.declared.options.Options.{Options}
+use Rattle.pipe_turns.specs.Name.{Name}
+use Rattle.pipe_turns.specs.Heard.{CallsBehind, Hears}
+use Rattle.pipe_state.specs.declared.options.Options.{Options}
 use Rattle.pipe_core.specs.declared.reply.Wake.{Wake}
 use Rattle.pipe_core.specs.Answers.{Woke}
-use Rattle.pipe_shared.specs.Turns.{Makes, Seat}
-use Rattle.pipe_shared.specs.Ends.{IsEnd, Reader}
+use Rattle.pipe_turns.specs.Turns.{Makes, Seat}
+use Rattle.pipe_turns.specs.Ends.{IsEnd}
+use Rattle.pipe_shared.specs.Ends.{Reader}
+use Rattle.pipe_turns.proofs.HeardLemmas.{heard_all}
 use Rattle.relay_engine.specs.Frames.{capped}
 use Rattle.relay_engine.specs.Drainer.{DrainState, IsDrained, end_code}
 use Rattle.relay_engine.specs.Ending.{is_sink_fault}
@@ -36,7 +38,7 @@ use Rattle.relay_engine.specs.declared.pipe_drainer.DrainStep.{DrainStep}
 use Rattle.relay_engine.specs.declared.pipe_drainer.DrainStep.TheVariants.{Moved, Idle, Busy, Worn, Done}
 use Rattle.relay_engine.proofs.BehindOthersLemmas.{concludes_later}
 use Rattle.relay_engine.proofs.DeviceLemmas.{takes_nothing}
-use Rattle.relay_engine.proofs.LaterLemmas.{heard_all, makes_spends}
+use Rattle.relay_engine.proofs.LaterLemmas.{makes_spends}
 use Rattle.relay_engine.proofs.LendLemmas.{behind_others}
 use Rattle.relay_engine.proofs.PumpLemmas.{new_drained}
 use Rattle.relay_engine.proofs.ReaderEndLemmas.{legal_behind}
@@ -320,13 +322,18 @@ wrote_all job before d d' k k' (Done told) end seat frames written ends_so is co
       own = subst (λ (s : Seat). s.own ≡ done.calls ++ EndReader (end_code told) ∷ []) at_seat done.own;
     })
 
+-- a completion that was refused is owed
+pub owes_by : (fault : TryFault) (end : DrainEnd) (d : DrainingState) (r : Reader) (d' : DrainerState) → RefusesToEnd fault end d r d' → CompletesFor end d r (refused_step fault) d'
+owes_by (try.Busy word) end d r d' owes = owes
+owes_by (try.Worn entries) end d r d' owes = owes
+
 -- ---- a new drainer
 
-pub begins_new : (d : DrainerState) (r : Reader) (job : Job) → d.end ≡ Some r → d.ending ≡ None → d.draining ≡ record { drained = record { job = job; place = 0; frames = 0; written = 0; known = 0 }; owed = None } → IsEnd 1 r.seat → r.seat.own ≡ [] → IsLawful r.seat.seen → r.lent ≡ None → IsDraining d []
-begins_new d r job has going new end none lawful no_lend = record {
+pub begins_new : (d : DrainerState) (r : Reader) (job : Job) → d.end ≡ Some r → d.ending ≡ None → d.draining ≡ record { drained = record { job = job; place = 0; frames = 0; written = 0; known = 0 }; owed = None } → IsEnd 1 r.seat → r.seat.own ≡ [] → r.lent ≡ None → IsDraining d []
+begins_new d r job has going new end none no_lend = record {
   reader = r;
   is = has;
-  legal = lawful.legal;
+  legal = end.lawful.legal;
   stands =
       subst (λ (o : Option DrainEnd). StandsAt o d.draining r []) (sym going)
       (subst (λ (x : DrainingState). HasPassed x (seen_by r) [] × (lent_len r ≡ lent_for x.owed) × IsWithin x.owed) (sym new) (drained, ap (λ (o : Option (List ℕ)). option_map length o) no_lend, tt));
@@ -336,10 +343,10 @@ begins_new d r job has going new end none lawful no_lend = record {
     start = record { job = job; place = 0; frames = 0; written = 0; known = 0 }
 
     heard : Hears 1 [] (seen_by r)
-    heard = heard_all 1 r.seat end none lawful
+    heard = heard_all 1 r.seat end none
 
     drained : IsDrained start (seen_by r) []
-    drained = subst (λ (l : List Call). IsDrained start l []) (sym heard.seen) (behind_others start [] [] heard.heard heard.others (subst IsLegal heard.seen lawful.legal) (new_drained job))
+    drained = subst (λ (l : List Call). IsDrained start l []) (sym heard.seen) (behind_others start [] [] heard.heard heard.others (subst IsLegal heard.seen end.lawful.legal) (new_drained job))
 
 -- what has written no byte has written nothing
 pub unwritten : (d : DrainerState) (text : List ℕ) → IsUnwritten d → IsDraining d text → IsDraining d []

@@ -9,19 +9,20 @@ use Rattle.relay_model.specs.declared.ending.FillEnd.TheVariants as taking
 use Rattle.turn_cell.specs.Seat.{CellState}
 use Rattle.pipe_core.specs.History.{Run, Call, Commit, bytes_of, EndWriter, Read, Advance, EndReader, CancelRead, CancelFlush, reader_end}
 use Rattle.pipe_core.specs.Legal.{IsLegal}
-use Rattle.pipe_shared.specs.declared.options.Options.{Options}
-use Rattle.pipe_shared.specs.declared.faults.Full as room
-use Rattle.pipe_shared.specs.declared.faults.TryFault.{TryFault}
-use Rattle.pipe_shared.specs.declared.faults.TryFault.TheVariants as try
-use Rattle.pipe_shared.specs.Name.{Name}
-use Rattle.pipe_shared.specs.Log.{IsLawful, calls_of}
-use Rattle.pipe_shared.specs.Turns.{Refuses}
-use Rattle.pipe_shared.specs.Ends.{IsEnd, Writer}
+use Rattle.pipe_state.specs.declared.options.Options.{Options}
+use Rattle.pipe_state.specs.declared.full.Full as room
+use Rattle.pipe_turns.specs.declared.faults.TryFault.{TryFault}
+use Rattle.pipe_turns.specs.declared.faults.TryFault.TheVariants as try
+use Rattle.pipe_turns.specs.Name.{Name}
+use Rattle.pipe_turns.specs.Log.{calls_of}
+use Rattle.pipe_turns.specs.Turns.{Refuses}
+use Rattle.pipe_turns.specs.Ends.{IsEnd}
+use Rattle.pipe_shared.specs.Ends.{Writer}
+use Rattle.pipe_turns.proofs.HeardLemmas.{heard_all}
 use Rattle.relay_engine.specs.Filler.{written, fill_code}
 use Rattle.relay_engine.specs.Later.{Later}
 use Rattle.relay_engine.proofs.FillingLemmas.{EndsFor, took, written_later, written_under}
 use Rattle.relay_engine.proofs.PumpLemmas.{gone_says}
-use Rattle.relay_engine.proofs.LaterLemmas.{heard_all}
 use Rattle.relay_engine.specs.Filling.{FillingState, HasTaken, FillsOn}
 use Rattle.relay_engine.specs.WriterEnds.{FindsNoRoom, HasWritten, IsOthers, RefusesWriter, drafting}
 use Rattle.relay_engine.specs.PipeFiller.{FillerState, IsFiller, MayClose, Closes, CompletesBy, EndsFrom, StepsFrom, all_of, closed_as, filler_of, filling_of, is_closed, is_done, seen_by, writer_in}
@@ -32,17 +33,17 @@ use Rattle.relay_engine.specs.declared.pipe_filler.FillerEnd.TheVariants.{Open, 
 use Rattle.relay_engine.specs.declared.pipe_filler.FillStep.{FillStep}
 
 -- an end that has made no entry and drafted nothing has taken nothing
-pub none_taken : (w : Writer) → IsEnd 0 w.seat → w.seat.own ≡ [] → IsLawful w.seat.seen → w.draft ≡ [] → all_of w ≡ []
-none_taken w end none lawful undrafted =
+pub none_taken : (w : Writer) → IsEnd 0 w.seat → w.seat.own ≡ [] → w.draft ≡ [] → all_of w ≡ []
+none_taken w end none undrafted =
     ap (λ (x : List Run). written (seen_by w) ++ bytes_of x) undrafted ∙ append-nil (written (seen_by w))
-    ∙ (let heard = heard_all 0 w.seat end none lawful in ap written heard.seen ∙ written_under IsOthers (λ call is. is) heard.heard [] heard.others)
+    ∙ (let heard = heard_all 0 w.seat end none in ap written heard.seen ∙ written_under IsOthers (λ call is. is) heard.heard [] heard.others)
 
-pub new_filler : (f : FillingState) (w : Writer) → f.taken ≡ 0 → f.drafted ≡ 0 → f.limit ≤ 2 ^ 40 → IsEnd 0 w.seat → w.seat.own ≡ [] → IsLawful w.seat.seen → w.draft ≡ [] → IsFiller f (Open w) None
-new_filler f w taken drafted small end none lawful undrafted = record {
+pub new_filler : (f : FillingState) (w : Writer) → f.taken ≡ 0 → f.drafted ≡ 0 → f.limit ≤ 2 ^ 40 → IsEnd 0 w.seat → w.seat.own ≡ [] → w.draft ≡ [] → IsFiller f (Open w) None
+new_filler f w taken drafted small end none undrafted = record {
   taken = record {
-    stands = (refl, lawful.legal);
+    stands = (refl, end.lawful.legal);
     all = refl;
-    counted = taken ∙ sym (ap length (none_taken w end none lawful undrafted));
+    counted = taken ∙ sym (ap length (none_taken w end none undrafted));
     drafted = drafted ∙ sym (ap (λ (x : List Run). length (bytes_of x)) undrafted);
     settled = λ unowed. undrafted;
   };

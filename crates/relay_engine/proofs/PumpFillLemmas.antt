@@ -20,11 +20,11 @@ use Rattle.pipe_core.specs.Legal.{IsLegal}
 use Rattle.pipe_core.specs.Pipe.{HoldsFor}
 use Rattle.pipe_core.specs.Standing.{AreThresholds}
 use Rattle.pipe_core.proofs.OrderLemmas.{ordered, total_commit}
-use Rattle.pipe_shared.specs.declared.options.Options.{Options}
-use Rattle.pipe_shared.specs.declared.faults.Full as room
-use Rattle.pipe_shared.specs.declared.faults.TryFault.{TryFault}
+use Rattle.pipe_state.specs.declared.options.Options.{Options}
+use Rattle.pipe_shared.specs.declared.faults.LocalFull as room
+use Rattle.pipe_turns.specs.declared.faults.TryFault.{TryFault}
 use Rattle.pipe_core.specs.Answers.{Woke}
-use Rattle.pipe_shared.specs.Options.{room_of}
+use Rattle.pipe_state.specs.Options.{room_of}
 use Rattle.pipe_shared.specs.Local.{IsFull, Local, LocalAnswers}
 use Rattle.relay_engine.specs.Filler.{written, fill_code}
 use Rattle.relay_engine.specs.Filling.{FillingState, HasTaken}
@@ -102,7 +102,7 @@ record Committed (d : DrainState) (h now : List Call) (text bytes : List ℕ) (m
   all : total now ≡ bytes
 
 -- What a fill step has taken.
-abbrev pub Once : FillingState → Local → SourceState → Filled room.Full → FillingState → Local → SourceState → List Call → List ℕ → Type 0
+abbrev pub Once : FillingState → Local → SourceState → Filled room.LocalFull → FillingState → Local → SourceState → List Call → List ℕ → Type 0
 Once f p before filled f' middle after h bytes = Took HoldsLocal NoOthers local_drafting RefusesNone p.options (IsLocalFull tt) (Ok filled) f p before f' middle after h bytes
 
 pub rest_taken : (job : Job) (sb s : SourceState) (kb k : SinkState) (f : FillingState) (d : DrainingState) (p : Local) (ending : Option FillEnd) → (rest : AtRest job sb s kb k f d p ending) → HasTaken HoldsLocal local_drafting f p rest.on.h (total rest.on.h)
@@ -114,7 +114,7 @@ rest_taken job sb s kb k f d p ending rest = let on = rest.on in record {
   settled = λ none. ap (run_in 0) on.draft;
 }
 
-committed : (job : Job) (sb s s' : SourceState) (kb k : SinkState) (f f' : FillingState) (d : DrainingState) (p middle : Local) (ending : Option FillEnd) (filled : Filled room.Full) → (rest : AtRest job sb s kb k f d p ending) → (once : Once f p s filled f' middle s' rest.on.h (total rest.on.h)) → middle.pipe.bytes.draft ≡ []
+committed : (job : Job) (sb s s' : SourceState) (kb k : SinkState) (f f' : FillingState) (d : DrainingState) (p middle : Local) (ending : Option FillEnd) (filled : Filled room.LocalFull) → (rest : AtRest job sb s kb k f d p ending) → (once : Once f p s filled f' middle s' rest.on.h (total rest.on.h)) → middle.pipe.bytes.draft ≡ []
     → Committed d.drained rest.on.h once.now rest.on.text (total rest.on.h ++ once.taken) middle
 committed job sb s s' kb k f f' d p middle ending filled rest once settled =
     let on = rest.on in
@@ -142,7 +142,7 @@ pub record Keeps (f : FillingState) (p : Local) (f' : FillingState) (p' : Local)
   pub one_read : f'.taken ≤ f.taken + p.options.segment
 
 -- bytes were taken
-took_bytes : (job : Job) (sb s s' : SourceState) (kb k : SinkState) (f f' : FillingState) (d : DrainingState) (p middle : Local) (ending : Option FillEnd) (filled : Filled room.Full) → (rest : AtRest job sb s kb k f d p ending) → (once : Once f p s filled f' middle s' rest.on.h (total rest.on.h)) → Keeps f p f' middle
+took_bytes : (job : Job) (sb s s' : SourceState) (kb k : SinkState) (f f' : FillingState) (d : DrainingState) (p middle : Local) (ending : Option FillEnd) (filled : Filled room.LocalFull) → (rest : AtRest job sb s kb k f d p ending) → (once : Once f p s filled f' middle s' rest.on.h (total rest.on.h)) → Keeps f p f' middle
     → Gives s once.taken s' → 0 < length once.taken → StepFilled job sb s' kb k f f' d middle None
 took_bytes job sb s s' kb k f f' d p middle ending filled rest once keeps given some =
     let on = rest.on in
@@ -183,7 +183,7 @@ took_bytes job sb s s' kb k f f' d p middle ending filled rest once keeps given 
     less false size = omega (arith, keeps.limit, size, keeps.within, some)
 
 -- no byte was taken, and the writer has completed
-took_end : (job : Job) (sb s s' : SourceState) (kb k : SinkState) (f f' : FillingState) (d : DrainingState) (p middle p' : Local) (ending : Option FillEnd) (filled : Filled room.Full) (end : FillEnd) (wake : Wake) → (rest : AtRest job sb s kb k f d p ending) → (once : Once f p s filled f' middle s' rest.on.h (total rest.on.h)) → middle.pipe.bytes.draft ≡ []
+took_end : (job : Job) (sb s s' : SourceState) (kb k : SinkState) (f f' : FillingState) (d : DrainingState) (p middle p' : Local) (ending : Option FillEnd) (filled : Filled room.LocalFull) (end : FillEnd) (wake : Wake) → (rest : AtRest job sb s kb k f d p ending) → (once : Once f p s filled f' middle s' rest.on.h (total rest.on.h)) → middle.pipe.bytes.draft ≡ []
     → Keeps f p f' p' → LocalAnswers middle (EndWriter (fill_code end) ∷ []) (Woke wake) p' → once.taken ≡ [] → ((code : ℕ) → end ≢ taking.Gone code) → TakenSoFar job.limit (total rest.on.h ++ once.taken) (Some end) sb s'
     → StepFilled job sb s' kb k f f' d p' (Some end)
 took_end job sb s s' kb k f f' d p middle p' ending filled end wake rest once settled keeps completes none not_gone taken =
@@ -248,7 +248,7 @@ paused_some job sb s s' kb k f f' d p p' ending n law rest once = elim once.read
 ]
 
 -- nor is it full
-never_full : (job : Job) (sb s s' : SourceState) (kb k : SinkState) (f f' : FillingState) (d : DrainingState) (p middle : Local) (ending : Option FillEnd) (filled : Filled room.Full) (told : room.Full) → (rest : AtRest job sb s kb k f d p ending) → (once : Once f p s filled f' middle s' rest.on.h (total rest.on.h)) → Keeps f p f' middle → once.taken ≡ []
+never_full : (job : Job) (sb s s' : SourceState) (kb k : SinkState) (f f' : FillingState) (d : DrainingState) (p middle : Local) (ending : Option FillEnd) (filled : Filled room.LocalFull) (told : room.LocalFull) → (rest : AtRest job sb s kb k f d p ending) → (once : Once f p s filled f' middle s' rest.on.h (total rest.on.h)) → Keeps f p f' middle → once.taken ≡ []
     → IsFull 1 told middle → ⊥
 never_full job sb s s' kb k f f' d p middle ending filled told rest once keeps none full =
     let on = rest.on in
@@ -266,7 +266,7 @@ never_full job sb s s' kb k f f' d p middle ending filled told rest once keeps n
     longest_same d job is = ap (λ (j : Job). longest_frame j.input j.max) is
 
 -- nor is the reader gone
-never_gone : (d : DrainState) (text : List ℕ) (options : Options) (f : FillingState) (now : List Call) (code : ℕ) → Goes d now text → EndsFor {F = room.Full} options (Ok (Ended (taking.Gone code))) f now → ⊥
+never_gone : (d : DrainState) (text : List ℕ) (options : Options) (f : FillingState) (now : List Call) (code : ℕ) → Goes d now text → EndsFor {F = room.LocalFull} options (Ok (Ended (taking.Gone code))) f now → ⊥
 never_gone d text options f now code goes (canceled, runs, found, last, replied) =
     let said = gone_says options.pause options.resume found runs canceled (Some code) (sym replied) in
     let attended : reader_end found ≡ None = sym (ap (λ (x : List Call). reader_end x) last) ∙ goes.attended in
@@ -297,9 +297,9 @@ filled job sb s s' kb k f f' d p p' ending result law rest fills keeps =
         let len : f'.taken ≡ length (total rest.on.h ++ once.taken) = once.holds.counted in
         at_end end ends.0 (took_end job sb s s' kb k f f' d p middle p' ending (Ended end) end ends.1.0 rest once settled keeps ends.1.1 none not_gone
         (taken_on job.limit (total rest.on.h) once.taken (Ok (Ended end)) sb s s' (omega (arith, len, keeps.within, keeps.limit, rest.on.limit))
-        (λ is. let at_limit : f'.taken ≡ f'.limit = subst (λ (a : Result (Filled room.Full) TryFault). EndsFor p.options a f' once.now) is once.ends in omega (arith, len, at_limit, keeps.limit, rest.on.limit)) taken once.loses))
+        (λ is. let at_limit : f'.taken ≡ f'.limit = subst (λ (a : Result (Filled room.LocalFull) TryFault). EndsFor p.options a f' once.now) is once.ends in omega (arith, len, at_limit, keeps.limit, rest.on.limit)) taken once.loses))
 
-    by_step : (filled : Filled room.Full) (middle : Local) → (once : Once f p s filled f' middle s' rest.on.h (total rest.on.h)) → middle.pipe.bytes.draft ≡ [] → EndsBy filled middle result p' → StepFilled job sb s' kb k f f' d p' result
+    by_step : (filled : Filled room.LocalFull) (middle : Local) → (once : Once f p s filled f' middle s' rest.on.h (total rest.on.h)) → middle.pipe.bytes.draft ≡ [] → EndsBy filled middle result p' → StepFilled job sb s' kb k f f' d p' result
     by_step (Moved n) middle once settled ends =
         more middle ends.0 ends.1 (took_bytes job sb s s' kb k f f' d p middle ending (Moved n) rest once (stays middle ends.1) once.loses (moved_some job sb s s' kb k f f' d p middle ending n rest once))
     by_step (Paused n) middle once settled ends =

@@ -25,9 +25,9 @@ use Rattle.pipe_core.specs.declared.reply.FlushReply.TheVariants as flush
 use Rattle.pipe_core.specs.Pipe.{HoldsFor}
 use Rattle.pipe_core.specs.Standing.{AreThresholds}
 use Rattle.pipe_core.proofs.OrderLemmas.{pending_tells}
-use Rattle.pipe_shared.specs.declared.options.Options.{Options}
-use Rattle.pipe_shared.specs.declared.faults.TryFault.{TryFault}
-use Rattle.pipe_shared.specs.Options.{room_of}
+use Rattle.pipe_state.specs.declared.options.Options.{Options}
+use Rattle.pipe_turns.specs.declared.faults.TryFault.{TryFault}
+use Rattle.pipe_state.specs.Options.{room_of}
 use Rattle.pipe_shared.specs.Local.{Local}
 use Rattle.relay_engine.specs.Filler.{written, fill_code}
 use Rattle.relay_engine.specs.Filling.{FillingState}

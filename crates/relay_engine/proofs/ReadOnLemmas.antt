@@ -18,7 +18,7 @@ use Rattle.pipe_core.specs.Reads.{reply_to_read}
 use Rattle.pipe_core.specs.Lends.{lend}
 use Rattle.pipe_core.specs.Legal.{IsLegal, MayFollow}
 use Rattle.pipe_core.proofs.OrderLemmas.{ordered, pending_tells}
-use Rattle.pipe_shared.specs.declared.faults.TryFault.{TryFault}
+use Rattle.pipe_turns.specs.declared.faults.TryFault.{TryFault}
 use Rattle.relay_engine.specs.Frames.{Drains, Passes, verdict_of}
 use Rattle.relay_engine.specs.Later.{CallsLater, HearsLater, Later}
 use Rattle.relay_engine.specs.Drainer.{DrainState, IsDrained, is_success, is_whole}

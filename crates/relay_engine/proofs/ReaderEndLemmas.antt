@@ -7,12 +7,12 @@ use Rattle.pipe_core.specs.Reads.{reply_to_read}
 use Rattle.pipe_core.specs.Wakes.{wake_of}
 use Rattle.pipe_core.specs.Legal.{IsLegal}
 use Rattle.pipe_core.specs.Answers.{Answer, Gave, Woke, answer_to}
-use Rattle.pipe_shared.specs.declared.options.Options.{Options}
-use Rattle.pipe_shared.specs.declared.faults.TryFault.{TryFault}
-use Rattle.pipe_shared.specs.declared.faults.TryFault.TheVariants as try
-use Rattle.pipe_shared.specs.Log.{calls_of}
-use Rattle.pipe_shared.specs.Turns.{Refuses, Seat}
-use Rattle.pipe_shared.specs.Heard.{CallsBehind, Hears}
+use Rattle.pipe_state.specs.declared.options.Options.{Options}
+use Rattle.pipe_turns.specs.declared.faults.TryFault.{TryFault}
+use Rattle.pipe_turns.specs.declared.faults.TryFault.TheVariants as try
+use Rattle.pipe_turns.specs.Log.{calls_of}
+use Rattle.pipe_turns.specs.Turns.{Refuses, Seat}
+use Rattle.pipe_turns.specs.Heard.{CallsBehind, Hears}
 use Rattle.pipe_shared.specs.Ends.{Reader}
 use Rattle.relay_engine.specs.Later.{CallsLater, HearsLater}
 use Rattle.relay_engine.specs.ReaderEnds.{HasRead}

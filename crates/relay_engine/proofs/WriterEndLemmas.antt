@@ -11,10 +11,10 @@ use Rattle.pipe_core.specs.Legal.{IsLegal}
 use Rattle.pipe_core.specs.Progress.{total}
 use Rattle.pipe_core.specs.Pipe.{Pipe, HoldsFor}
 use Rattle.pipe_core.proofs.OrderLemmas.{total_commit}
-use Rattle.pipe_shared.specs.declared.options.Options.{Options}
-use Rattle.pipe_shared.specs.Log.{calls_of}
-use Rattle.pipe_shared.specs.Heard.{CallsBehind, Hears}
-use Rattle.pipe_shared.specs.Turns.{Wins, FindsTooMuch}
+use Rattle.pipe_state.specs.declared.options.Options.{Options}
+use Rattle.pipe_turns.specs.Log.{calls_of}
+use Rattle.pipe_turns.specs.Heard.{CallsBehind, Hears}
+use Rattle.pipe_turns.specs.Turns.{Wins, FindsTooMuch}
 use Rattle.pipe_shared.specs.Ends.{Writer}
 use Rattle.pipe_shared.specs.Granting.{Grants}
 use Rattle.relay_engine.specs.Filler.{written}

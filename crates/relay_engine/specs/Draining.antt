@@ -7,7 +7,7 @@ use Rattle.pipe_core.specs.History.{Call, Read, Advance, seat_of}
 use Rattle.pipe_core.specs.Progress.{total, examined, held}
 use Rattle.pipe_core.specs.Reads.{reply_to_read}
 use Rattle.pipe_core.specs.Legal.{IsLegal, MayFollow}
-use Rattle.pipe_shared.specs.declared.faults.TryFault.{TryFault}
+use Rattle.pipe_turns.specs.declared.faults.TryFault.{TryFault}
 use Rattle.relay_engine.specs.Later.{Later}
 use Rattle.relay_engine.specs.Frames.{Breaks, Drains}
 use Rattle.relay_engine.specs.Passing.{added, end_at}

@@ -8,8 +8,8 @@ use Rattle.pipe_core.specs.declared.reply.FlushReply.{FlushReply}
 use Rattle.pipe_core.specs.declared.reply.FlushReply.TheVariants as flush
 use Rattle.pipe_core.specs.History.{Run, Call, Commit, bytes_of}
 use Rattle.pipe_core.specs.Flushes.{reply_to_commit}
-use Rattle.pipe_shared.specs.declared.options.Options.{Options}
-use Rattle.pipe_shared.specs.declared.faults.TryFault.{TryFault}
+use Rattle.pipe_state.specs.declared.options.Options.{Options}
+use Rattle.pipe_turns.specs.declared.faults.TryFault.{TryFault}
 use Rattle.relay_engine.specs.Ends.{GivesOneMore, Reading}
 use Rattle.relay_engine.specs.Filler.{written}
 use Rattle.relay_engine.specs.Later.{Later}

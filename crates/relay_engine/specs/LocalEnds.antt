@@ -2,7 +2,7 @@
 use Rattle.std.specs.Prelude.{List}
 use Rattle.pipe_core.specs.History.{Call}
 use Rattle.pipe_core.specs.Pipe.{HoldsFor}
-use Rattle.pipe_shared.specs.declared.faults.TryFault.{TryFault}
+use Rattle.pipe_turns.specs.declared.faults.TryFault.{TryFault}
 use Rattle.pipe_shared.specs.Local.{Local}
 
 -- It stands for a history.

@@ -1,18 +1,18 @@
 -- A drainer on a pipe for two threads, and what its steps come to.
-use Rattle.std.specs.Prelude.{ℕ, ◌≡◌, ◌≢◌, Bool, false, List, [], ◌∷◌, ◌++◌, Option, Some, None, IsSomeAnd}
+use Rattle.std.specs.Prelude.{ℕ, ◌≡◌, ◌≢◌, Bool, false, List, [], ◌∷◌, ◌++◌, Option, Some, None, IsSomeAnd, option_map}
 use Rattle.edge_core.specs.Device.{SinkState}
 use Rattle.turn_cell.specs.Seat.{CellState, IsIdle}
 use Rattle.pipe_core.specs.History.{Call, EndReader, seat_of}
 use Rattle.pipe_core.specs.Legal.{IsLegal}
-use Rattle.pipe_shared.specs.declared.options.Options.{Options}
-use Rattle.pipe_shared.specs.Name.{Name}
-use Rattle.pipe_shared.specs.declared.faults.TryFault.{TryFault}
-use Rattle.pipe_shared.specs.declared.faults.TryFault.TheVariants as try
-use Rattle.pipe_shared.specs.Log.{calls_of}
+use Rattle.pipe_state.specs.declared.options.Options.{Options}
+use Rattle.pipe_turns.specs.Name.{Name}
+use Rattle.pipe_turns.specs.declared.faults.TryFault.{TryFault}
+use Rattle.pipe_turns.specs.declared.faults.TryFault.TheVariants as try
+use Rattle.pipe_turns.specs.Log.{calls_of}
 use Rattle.pipe_core.specs.declared.reply.Wake.{Wake}
 use Rattle.pipe_core.specs.Answers.{Woke}
-use Rattle.pipe_shared.specs.Turns.{Refuses, Seat}
-use Rattle.pipe_shared.specs.Heard.{CallsBehind, Hears}
+use Rattle.pipe_turns.specs.Turns.{Refuses, Seat}
+use Rattle.pipe_turns.specs.Heard.{CallsBehind, Hears}
 use Rattle.pipe_shared.specs.Ends.{Reader}
 use Rattle.relay_engine.specs.Ending.{is_sink_fault}
 use Rattle.relay_engine.specs.Drainer.{end_code}
@@ -105,6 +105,21 @@ pub record StepsDrainer (d : DrainerState) (before : SinkState) (step : DrainSte
   pub gained : GainsFor d.ending d.draining.owed (step_failed step d') before gain after
   pub behind : (text : List ℕ) → (from : IsDraining d text) → BehindStep step d from.reader gain d' (text ++ gain)
   pub job : d'.draining.drained.job ≡ d.draining.drained.job
+
+-- its seat behind a step: that of its end, or that of a reader that has completed
+abbrev pub seat_behind : DrainStep → DrainerState → Option Seat
+seat_behind (Done end) d = d.done
+seat_behind step d = option_map (λ r. r.seat) d.end
+
+-- how many exchanges of a step have made no entry: that of its last call, where it was refused
+abbrev pub refused_calls : DrainStep → ℕ
+refused_calls (Busy word) = 1
+refused_calls (Worn entries) = 1
+refused_calls step = 0
+
+-- Each exchange of a step has made an entry, but that of a call which was refused.
+abbrev pub SpendsBy : DrainStep → DrainerState → DrainerState → Type 0
+SpendsBy step d d' = IsSomeAnd d.end (λ r. IsSomeAnd (seat_behind step d') (λ seat. Spends (refused_calls step) (reader_tally r) (tally_of seat)))
 
 -- Its end, or its seat once it has completed, is one of this pipe's.
 abbrev pub IsOfPipe : CellState Name → DrainStep → DrainerState → Type 0

@@ -1,5 +1,5 @@
 -- What a filler does by a step on a pipe that two threads use.
-use Rattle.std.specs.Prelude.{ℕ, ◌≡◌, ◌≤◌, ◌^◌, Bool, true, false, List, [], ◌∷◌, ◌++◌, length, map, Option, None, Some, Result, Ok, Err, IfSome}
+use Rattle.std.specs.Prelude.{ℕ, ◌≡◌, ◌≤◌, ◌+◌, ◌^◌, Bool, true, false, List, [], ◌∷◌, ◌++◌, length, map, Option, None, Some, Result, Ok, Err, IfSome}
 use Rattle.std.specs.List.{flat_map}
 use Rattle.edge_core.specs.Device.{SourceState}
 use Rattle.relay_model.specs.declared.ending.FillEnd.{FillEnd}
@@ -7,12 +7,12 @@ use Rattle.relay_model.specs.declared.ending.FillEnd.TheVariants as taking
 use Rattle.turn_cell.specs.Seat.{CellState}
 use Rattle.pipe_core.specs.History.{Run, Call, Commit, EndWriter, bytes_of, reader_end}
 use Rattle.pipe_core.specs.Legal.{IsLegal}
-use Rattle.pipe_shared.specs.declared.faults.Full as room
-use Rattle.pipe_shared.specs.declared.faults.TryFault.{TryFault}
-use Rattle.pipe_shared.specs.declared.faults.TryFault.TheVariants as try
-use Rattle.pipe_shared.specs.Name.{Name}
-use Rattle.pipe_shared.specs.Log.{calls_of}
-use Rattle.pipe_shared.specs.Turns.{Seat, Refuses, FindsHeld, FindsWorn}
+use Rattle.pipe_state.specs.declared.full.Full as room
+use Rattle.pipe_turns.specs.declared.faults.TryFault.{TryFault}
+use Rattle.pipe_turns.specs.declared.faults.TryFault.TheVariants as try
+use Rattle.pipe_turns.specs.Name.{Name}
+use Rattle.pipe_turns.specs.Log.{calls_of}
+use Rattle.pipe_turns.specs.Turns.{Seat, Refuses, FindsHeld, FindsWorn}
 use Rattle.pipe_shared.specs.Ends.{Writer}
 use Rattle.pipe_shared.specs.Attempts.{completed}
 use Rattle.relay_engine.specs.Filler.{written, fill_code}
@@ -147,6 +147,16 @@ abbrev pub closed_as : FillEnd → Result (Unit {0}) TryFault → FillStep
 closed_as end (Ok done) = Done end
 closed_as end (Err (try.Busy word)) = Busy word
 closed_as end (Err (try.Worn entries)) = Worn entries
+
+-- how many exchanges of a step were refused: that of its last call, or none
+abbrev pub refused_calls : FillStep → ℕ
+refused_calls (Busy word) = 1
+refused_calls (Worn entries) = 1
+refused_calls step = 0
+
+-- Each exchange of a step has made an entry, but that of a call which was refused, and at most one that asked for room.
+abbrev pub SpendsBy : FillStep → Writer → Writer → Type 0
+SpendsBy step w w' = (asked : ℕ) × (asked ≤ 1) × Spends (asked + refused_calls step) (tally_of w.seat) (tally_of w'.seat)
 
 -- ---- the completion
 

@@ -7,8 +7,8 @@ use Rattle.frame_grammar.specs.Job.{segments}
 use Rattle.pipe_core.specs.declared.reply.Wake.{Wake}
 use Rattle.pipe_core.specs.History.{Call, EndWriter}
 use Rattle.pipe_core.specs.Answers.{Woke}
-use Rattle.pipe_shared.specs.declared.options.Options.{Options}
-use Rattle.pipe_shared.specs.declared.faults.Full.{Full}
+use Rattle.pipe_state.specs.declared.options.Options.{Options}
+use Rattle.pipe_shared.specs.declared.faults.LocalFull.{LocalFull}
 use Rattle.pipe_shared.specs.Local.{Local, LocalAnswers}
 use Rattle.relay_engine.specs.Filler.{fill_code}
 use Rattle.relay_engine.specs.Filling.{FillingState, FillsOn}
@@ -22,13 +22,13 @@ abbrev pub options_for : Job → Options
 options_for job = record { segment = job.seg; segments = segments job; pause = job.pause; resume = job.resume }
 
 -- The writer has completed where the taking has ended.
-abbrev pub EndsBy : Filled Full → Local → Option FillEnd → Local → Type 0
+abbrev pub EndsBy : Filled LocalFull → Local → Option FillEnd → Local → Type 0
 EndsBy (Ended end) middle result p' = (result ≡ Some end) × ((wake : Wake) × LocalAnswers middle (EndWriter (fill_code end) ∷ []) (Woke wake) p')
 EndsBy filled middle result p' = (result ≡ None) × (p' ≡ middle)
 
 -- One step of the filler, by which no call is refused, and the writer's completion, where the taking has ended.
 pub record FillsLocal (f : FillingState) (p : Local) (before : SourceState) (result : Option FillEnd) (f' : FillingState) (p' : Local) (after : SourceState) (h : List Call) (bytes : List ℕ) : Type 0 where
-  pub filled : Filled Full
+  pub filled : Filled LocalFull
   pub middle : Local
   pub once : FillsOn HoldsLocal NoOthers local_drafting RefusesNone p.options (IsLocalFull tt) f p before (Ok filled) f' middle after h bytes
   pub settled : middle.pipe.bytes.draft ≡ []

@@ -5,7 +5,7 @@ use Rattle.frame_grammar.specs.declared.job.Job.{Job}
 use Rattle.relay_model.specs.declared.ending.FillEnd.{FillEnd}
 use Rattle.relay_model.specs.declared.ending.Report.{Report}
 use Rattle.relay_model.specs.Ending.{outcome_of}
-use Rattle.pipe_shared.specs.Turns.{Seat}
+use Rattle.pipe_turns.specs.Turns.{Seat}
 use Rattle.relay_engine.specs.declared.drain_end.DrainEnd.{DrainEnd}
 use Rattle.relay_engine.specs.Ending.{is_sink_fault, verdict_for}
 use Rattle.relay_engine.specs.Sides.{HasFilled, HasDrained}

@@ -3,11 +3,11 @@ use Rattle.std.specs.Prelude.{ℕ, ◌≡◌, List, length, Option, Some, None, 
 use Rattle.turn_cell.specs.Seat.{CellState, IsIdle}
 use Rattle.pipe_core.specs.History.{Call}
 use Rattle.pipe_core.specs.Legal.{IsLegal}
-use Rattle.pipe_shared.specs.declared.options.Options.{Options}
-use Rattle.pipe_shared.specs.declared.faults.TryFault.{TryFault}
-use Rattle.pipe_shared.specs.Name.{Name}
-use Rattle.pipe_shared.specs.Log.{calls_of}
-use Rattle.pipe_shared.specs.Turns.{Refuses}
+use Rattle.pipe_state.specs.declared.options.Options.{Options}
+use Rattle.pipe_turns.specs.declared.faults.TryFault.{TryFault}
+use Rattle.pipe_turns.specs.Name.{Name}
+use Rattle.pipe_turns.specs.Log.{calls_of}
+use Rattle.pipe_turns.specs.Turns.{Refuses}
 use Rattle.pipe_shared.specs.Ends.{Reader}
 use Rattle.pipe_shared.specs.Local.{Local}
 use Rattle.relay_engine.specs.Tally.{Tally, no_tally, tally_of}

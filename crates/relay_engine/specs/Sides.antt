@@ -9,8 +9,8 @@ use Rattle.relay_model.specs.declared.ending.FillEnd.TheVariants as taking
 use Rattle.relay_model.specs.Run.{IsTaken, frames_in}
 use Rattle.pipe_core.specs.History.{Run, Call, Commit, EndWriter, EndReader, bytes_of, reader_end, writer_end}
 use Rattle.pipe_core.specs.Progress.{total, consumed}
-use Rattle.pipe_shared.specs.Log.{calls_of}
-use Rattle.pipe_shared.specs.Turns.{Seat}
+use Rattle.pipe_turns.specs.Log.{calls_of}
+use Rattle.pipe_turns.specs.Turns.{Seat}
 use Rattle.relay_engine.specs.Frames.{Passes, capped}
 use Rattle.relay_engine.specs.Filler.{fill_code}
 use Rattle.relay_engine.specs.Drainer.{end_code, is_whole, translated}

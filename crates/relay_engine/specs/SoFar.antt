@@ -5,7 +5,7 @@ use Rattle.frame_grammar.specs.declared.job.Job.{Job}
 use Rattle.relay_model.specs.declared.ending.FillEnd.{FillEnd}
 use Rattle.relay_model.specs.Run.{IsTaken}
 use Rattle.turn_cell.specs.Seat.{CellState, IsIdle}
-use Rattle.pipe_shared.specs.Name.{Name}
+use Rattle.pipe_turns.specs.Name.{Name}
 use Rattle.relay_engine.specs.Draining.{GainsIf}
 use Rattle.relay_engine.specs.PipeDrainer.{DrainerState, IsDraining, owes_end}
 use Rattle.relay_engine.specs.PipeFiller.{FillerState, all_of}

@@ -1,6 +1,6 @@
 -- How often an end has turned to its pipe.
 use Rattle.std.specs.Prelude.{ℕ, ◌≡◌, ◌+◌, length}
-use Rattle.pipe_shared.specs.Turns.{Seat}
+use Rattle.pipe_turns.specs.Turns.{Seat}
 
 -- How many exchanges an end has made with its pipe, and how many entries.
 pub record Tally : Type 0 where

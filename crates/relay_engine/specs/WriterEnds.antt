@@ -3,12 +3,13 @@ use Rattle.std.specs.Prelude.{◌≡◌, ◌≢◌, List, length, Some, None, Is
 use Rattle.turn_cell.specs.Seat.{CellState, IsIdle}
 use Rattle.pipe_core.specs.History.{Call, seat_of, run_in}
 use Rattle.pipe_core.specs.Legal.{IsLegal}
-use Rattle.pipe_shared.specs.declared.options.Options.{Options}
-use Rattle.pipe_shared.specs.declared.faults.Full.{Full}
-use Rattle.pipe_shared.specs.Name.{Name}
-use Rattle.pipe_shared.specs.declared.faults.TryFault.{TryFault}
-use Rattle.pipe_shared.specs.Log.{calls_of}
-use Rattle.pipe_shared.specs.Turns.{Refuses}
+use Rattle.pipe_state.specs.declared.options.Options.{Options}
+use Rattle.pipe_shared.specs.declared.faults.LocalFull.{LocalFull}
+use Rattle.pipe_state.specs.declared.full.Full.{Full}
+use Rattle.pipe_turns.specs.Name.{Name}
+use Rattle.pipe_turns.specs.declared.faults.TryFault.{TryFault}
+use Rattle.pipe_turns.specs.Log.{calls_of}
+use Rattle.pipe_turns.specs.Turns.{Refuses}
 use Rattle.pipe_shared.specs.Ends.{Writer}
 use Rattle.pipe_shared.specs.Granting.{FindsFull}
 use Rattle.pipe_shared.specs.Local.{Local, IsFull}
@@ -55,5 +56,5 @@ local_drafting p = record {
 abbrev pub local_options : Unit {0} → Local → Options
 local_options pipe p = p.options
 
-abbrev pub IsLocalFull : Unit {0} → Full → Local → Local → Type 0
+abbrev pub IsLocalFull : Unit {0} → LocalFull → Local → Local → Type 0
 IsLocalFull pipe full old new = IsFull 1 full old × (new ≡ old)

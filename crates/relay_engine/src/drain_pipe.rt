@@ -6,7 +6,7 @@ ghost use Rattle.pipe_core.specs.History.{Call, Read, Advance, seat_of};
 ghost use Rattle.pipe_core.specs.Reads.{reply_to_read};
 ghost use Rattle.pipe_core.specs.Lends.{lend};
 ghost use Rattle.pipe_core.specs.Standing.{MayAdvance};
-ghost use Rattle.pipe_shared.specs.declared.faults.TryFault.{TryFault};
+ghost use Rattle.pipe_turns.specs.declared.faults.TryFault.{TryFault};
 ghost use Rattle.relay_engine.specs.Ends.{lent_by};
 ghost use Rattle.relay_engine.specs.Later.{CallsLater, HearsLater};
 ghost use Rattle.relay_engine.specs.ReaderEnds.{Aside};

@@ -3,8 +3,8 @@
 ghost use Rattle.std.specs.Prelude.{◌≡◌, ◌≢◌, ◌<◌, ◌≤◌, ◌+◌, ◌^◌, ℕ, List, [], ◌∷◌, length, IfOk, IfErr};
 ghost use Rattle.pipe_core.specs.History.{Call, Commit, bytes_of, seat_of};
 ghost use Rattle.pipe_core.specs.Flushes.{reply_to_commit};
-ghost use Rattle.pipe_shared.specs.declared.options.Options.{Options};
-ghost use Rattle.pipe_shared.specs.declared.faults.TryFault.{TryFault};
+ghost use Rattle.pipe_state.specs.declared.options.Options.{Options};
+ghost use Rattle.pipe_turns.specs.declared.faults.TryFault.{TryFault};
 ghost use Rattle.relay_engine.specs.Filler.{written};
 ghost use Rattle.relay_engine.specs.Later.{CallsLater, HearsLater};
 ghost use Rattle.relay_engine.specs.Filling.{Drafting, Drafts, IsGranted, RefusesRoomTo};

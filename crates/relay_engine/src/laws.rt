@@ -12,8 +12,9 @@ ghost use Rattle.pipe_core.specs.History.{Call, seat_of};
 ghost use Rattle.pipe_core.specs.Legal.{IsLegal};
 ghost use Rattle.pipe_shared.specs.declared.pipe.Closed.{Closed};
 ghost use Rattle.pipe_shared.specs.Made.{ClosesPipe};
-ghost use Rattle.pipe_shared.specs.Name.{Name};
-ghost use Rattle.pipe_shared.specs.Turns.{Seat};
+ghost use Rattle.pipe_state.specs.Released.{BlockName};
+ghost use Rattle.pipe_turns.specs.Name.{Name};
+ghost use Rattle.pipe_turns.specs.Turns.{Seat};
 ghost use Rattle.relay_engine.specs.Drainer.{DrainState, IsDrained, translated};
 ghost use Rattle.relay_engine.specs.PipeDrainer.{DrainerState, IsDraining, IsUnwritten, StepsDrainer, end_by};
 ghost use Rattle.relay_engine.specs.PipeFiller.{FillerState, IsUnused, StepsOn, all_of};
@@ -68,7 +69,7 @@ pub fn steps_drain()
 /// Once the pipe of both sides is closed, what they have seen of it is one history, and the report is that of a run: what a
 /// relay on one thread may answer, whichever threads made the steps.
 pub fn settled_pump_is_reported()
-    ensures { (job : Job) (report : Report) (writer reader canceller : Seat) (closed : Closed) (source_before source_after : SourceState) (sink_before sink_after : SinkState) →
-        job.limit ≤ 2 ^ 40 → HasPumped job report writer reader source_before source_after sink_before sink_after → ClosesPipe writer reader canceller closed →
+    ensures { (job : Job) (report : Report) (writer reader canceller : Seat) (blocks : List BlockName) (closed : Closed) (source_before source_after : SourceState) (sink_before sink_after : SinkState) →
+        job.limit ≤ 2 ^ 40 → HasPumped job report writer reader source_before source_after sink_before sink_after → ClosesPipe blocks writer reader canceller closed →
         IsReported job report source_before source_after sink_before sink_after }
 {}

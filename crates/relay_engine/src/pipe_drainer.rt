@@ -4,9 +4,8 @@ ghost use Rattle.std.specs.Prelude.{◌≡◌, ℕ, List, [], Some, None, IsSome
 ghost use Rattle.turn_cell.specs.Seat.{IsIdle};
 ghost use Rattle.relay_engine.specs.Sides.{HasDrained};
 ghost use Rattle.pipe_core.specs.Legal.{IsLegal};
-ghost use Rattle.pipe_shared.specs.Log.{IsLawful};
 ghost use Rattle.relay_engine.specs.Sides.{Concludes};
-ghost use Rattle.relay_engine.specs.PipeDrainer.{CompletesFor, IsDrainer, IsDraining, IsOfPipe, IsUnwritten, StepsDrainer, end_by, refused_step, seen_by};
+ghost use Rattle.relay_engine.specs.PipeDrainer.{CompletesFor, IsDrainer, IsDraining, IsOfPipe, IsUnwritten, SpendsBy, StepsDrainer, end_by, refused_step, seen_by};
 
 use crate::drain_end::DrainEnd;
 use crate::draining::{Draining, Progress};
@@ -14,7 +13,7 @@ use edge_core::Sink;
 use frame_grammar::Job;
 use pipe_shared::{
     Attempts, Pipe, ReaderDone, ReaderEnd, ReaderRefused, TryFault, others_are_heard_first,
-    reader_has_its_seat,
+    reader_has_its_seat, reader_is_lent_what_it_has_seen,
 };
 use std::marker::Model;
 use std::sync::Wait;
@@ -67,12 +66,11 @@ impl Model for Drainer {
 impl Drainer {
     /// A drainer that cuts frames and spells them anew as the job says. Its end has made no call yet, whatever others did.
     pub fn new(end: ReaderEnd, job: &Job) -> Drainer
-        requires unused { end.seat.own ≡ [] }
-        requires lawful { IsLawful end.seat.seen }
-        requires no_lend { end.lent ≡ None }
+        requires { end.seat.own ≡ [] }
         ensures { result ≡ record { draining = record { drained = record { job = job.now; place = 0; frames = 0; written = 0; known = 0 }; owed = None }; end = Some end; ending = None; done = None } }
     {
         reader_has_its_seat(&end);
+        reader_is_lent_what_it_has_seen(&end);
         Drainer {
             draining: Draining::new(job),
             end: Some(end),
@@ -102,6 +100,7 @@ impl Drainer {
         requires pipe { IsSomeAnd self.old.end (λ r. IsIdle pipe.now r.seat) }
         ensures pipe { IsOfPipe pipe.now result self.new }
         ensures step { StepsDrainer self.old (K.state sink.old) result self.new (K.state sink.new) }
+        ensures spent { SpendsBy result self.old self.new }
     {
         let Some(end) = self.end.take() else {
             unreachable!()

@@ -2,12 +2,11 @@
 
 ghost use Rattle.std.specs.Prelude.{◌≡◌, ◌≤◌, ◌^◌, [], false, true, length, None, Some, IfOk};
 ghost use Rattle.turn_cell.specs.Seat.{IsIdle};
-ghost use Rattle.pipe_shared.specs.Log.{IsLawful};
-ghost use Rattle.pipe_shared.specs.Ends.{IsEnd};
+ghost use Rattle.pipe_turns.specs.Ends.{IsEnd};
 ghost use Rattle.relay_engine.specs.Filler.{fill_code};
 ghost use Rattle.relay_engine.specs.Filling.{FillsOn, HasTaken, owes};
 ghost use Rattle.relay_engine.specs.WriterEnds.{FindsNoRoom, HasWritten, IsOthers, RefusesWriter, drafting};
-ghost use Rattle.relay_engine.specs.PipeFiller.{Closes, CompletesBy, IfAnswered, IsUnused, MayClose, OwesBy, StepsOn, TakesOrEnds, all_of, closed_as, filling_of, is_closed, is_done, seen_by, writer_in};
+ghost use Rattle.relay_engine.specs.PipeFiller.{Closes, CompletesBy, IfAnswered, IsUnused, MayClose, OwesBy, SpendsBy, StepsOn, TakesOrEnds, all_of, closed_as, filling_of, is_closed, is_done, seen_by, writer_in};
 ghost use Rattle.relay_engine.specs.declared.pipe_filler.FillerEnd.TheVariants.{Open};
 
 use crate::filling::{Filled, Filling};
@@ -81,11 +80,11 @@ impl Model for Filler {
 }
 
 impl Filler {
-    /// A filler that takes at most `limit` bytes in all. Its end has made no entry yet, whatever others did.
+    /// A filler that takes at most `limit` bytes in all, 2^40 or less. Its end has made no entry yet, whatever others did, and
+    /// has no draft.
     pub fn new(end: WriterEnd, limit: u64) -> Filler
         requires limit { limit ≤ 2 ^ 40 }
         requires unused { end.seat.own ≡ [] }
-        requires lawful { IsLawful end.seat.seen }
         requires undrafted { end.draft ≡ [] }
         ensures filler { result ≡ record { limit = limit; taken = 0; owed = false; drafted = 0; end = end; ending = None; done = false } }
         ensures unused { IsUnused result }
@@ -122,6 +121,7 @@ impl Filler {
         ensures within { self.new.taken ≤ self.new.limit }
         ensures draft { IfAnswered result (self.new.end.draft ≡ []) }
         ensures owed { OwesBy result self.new.owed }
+        ensures spent { SpendsBy result self.old.end self.new.end }
     {
         match self.take(pipe, source) {
             Ok(step) => step,

@@ -9,7 +9,7 @@ ghost use Rattle.pipe_core.specs.Answers.{Woke};
 ghost use Rattle.pipe_core.specs.Pipe.{HoldsFor};
 ghost use Rattle.pipe_core.specs.Standing.{AreThresholds};
 ghost use Rattle.pipe_core.specs.declared.reply.Wake.{Wake};
-ghost use Rattle.pipe_shared.specs.Options.{first_bad, room_of};
+ghost use Rattle.pipe_state.specs.Options.{first_bad, room_of};
 ghost use Rattle.pipe_shared.specs.Local.{LocalAnswers};
 ghost use Rattle.relay_engine.specs.Filling.{HasTaken};
 ghost use Rattle.relay_engine.specs.WriterEnds.{local_drafting};
@@ -30,8 +30,8 @@ use std::alloc::{AllocError, Global};
 /// Relays a source to a sink, and reports how that ended. It takes its memory before the first read, and want of it is the
 /// one refusal, by which nothing is read or written.
 ///
-/// It takes at most a segment of the source behind the place where a bad frame is complete, and returns where all calls of the source
-/// and the sink do.
+/// It takes less than a segment of the source behind the place where a bad frame is complete, and returns where all calls of the
+/// source and the sink do.
 pub fn pump_local<S: Source, K: Sink>(
     alloc: Global,
     source: &mut S,

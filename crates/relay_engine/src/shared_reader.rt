@@ -2,15 +2,14 @@
 
 use crate::drain_pipe::DrainPipe;
 use pipe_core::ReadReply;
-use pipe_shared::{
-    Pipe, ReaderEnd, Reading, TryFault, others_are_heard_first, reader_has_its_seat,
-};
+use pipe_shared::{Pipe, ReaderEnd, TryFault, others_are_heard_first, reader_has_its_seat};
+use pipe_state::Chain;
 use span_seq::Sequence;
 
 impl DrainPipe for ReaderEnd {
     type Pipe = Pipe;
 
-    type Lent = Reading;
+    type Lent = Chain;
 
     ghost use Rattle.std.specs.Prelude.{◌≢◌};
     ghost use Rattle.pipe_core.specs.History.{seat_of};
@@ -41,7 +40,7 @@ impl DrainPipe for ReaderEnd {
         }
     }
 
-    fn lent(&self) -> Sequence<'_, Reading> {
+    fn lent(&self) -> Sequence<'_, Chain> {
         self.lent()
     }
 

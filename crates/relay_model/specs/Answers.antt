@@ -26,7 +26,7 @@ Finishes job (Ok report) source_before source_after sink_before sink_after =
 Finishes job (Err _) source_before source_after sink_before sink_after =
     (source_after ≡ source_before) × (sink_after ≡ sink_before)
 
--- So a relay on one thread leaves them, which takes at most a segment behind a bad frame.
+-- So a relay on one thread leaves them, which takes less than a segment behind a bad frame.
 pub record FinishesAlone (job : Job) (answer : Answer) (source_before source_after : SourceState) (sink_before sink_after : SinkState) : Type 0 where
   pub finishes : Finishes job answer source_before source_after sink_before sink_after
   pub in_time : StopsInTime job source_before source_after

@@ -87,10 +87,11 @@ pub record IsReported (job : Job) (report : Report) (source_before source_after 
 abbrev pub HasNoBad : Job → List ℕ → Type 0
 HasNoBad job x = (place : ℕ) (kind : BadKind) → (translation job x false).verdict ≢ Bad place kind
 
--- At most a segment of what the source held was taken behind the place where a bad frame is complete.
+-- Less than a segment was taken behind the place where a bad frame is complete: no front with a segment or more of what was taken behind it
+-- has one. What left the source was taken, up to the limit.
 abbrev pub StopsInTime : Job → SourceState → SourceState → Type 0
 StopsInTime job before after =
-    IfSome before.left (λ input. IfSome after.left (λ left. (k : ℕ) → k + job.seg + length left < length input → HasNoBad job (take k input)))
+    IfSome before.left (λ input. IfSome after.left (λ left. (k : ℕ) → k + job.seg + length left ≤ length input → k + job.seg ≤ job.limit → HasNoBad job (take k input)))
 
 -- Where neither device failed, the sink gains the translation of all that the source held.
 abbrev pub TranslatesAll : Job → SourceState → SourceState → SinkState → SinkState → Type 0

@@ -1,11 +1,11 @@
 -- The ends of a new pipe.
 use Rattle.std.specs.Prelude.{[], None}
 use Rattle.turn_cell.specs.Seat.{CellState, new_seat}
-use Rattle.pipe_shared.specs.Name.{Name}
+use Rattle.pipe_turns.specs.Name.{Name}
 use Rattle.pipe_shared.specs.Ends.{Reader, Writer}
 
 abbrev pub new_writer : CellState Name → Writer
-new_writer cell = record { seat = new_seat cell 0; draft = []; free = [] }
+new_writer cell = record { seat = new_seat cell 0; draft = []; free = []; hint = 0 }
 
 abbrev pub new_reader : CellState Name → Reader
 new_reader cell = record { seat = new_seat cell 1; lent = None }

@@ -5,7 +5,7 @@ ghost use Rattle.turn_cell.specs.Seat.{IsIdle, IsOf, new_seat};
 ghost use Rattle.frame_grammar.specs.Job.{IsInRange};
 ghost use Rattle.pipe_shared.specs.declared.pipe.Closed.{Closed};
 ghost use Rattle.pipe_shared.specs.Made.{ClosesPipe};
-ghost use Rattle.pipe_shared.specs.Options.{first_bad};
+ghost use Rattle.pipe_state.specs.Options.{first_bad};
 ghost use Rattle.relay_engine.specs.Sides.{HasDrained, HasFilled};
 ghost use Rattle.relay_engine.specs.Pump.{options_for};
 ghost use Rattle.relay_engine.specs.Pumped.{HasPumped};
@@ -14,8 +14,10 @@ ghost use Rattle.relay_threads.specs.NewEnds.{new_reader, new_writer};
 use edge_core::{Sink, Source};
 use frame_grammar::Job;
 use pipe_shared::{Canceller, Made, MakeError, Pipe, ReaderDone, ReaderEnd, WriterDone, WriterEnd};
+use pipe_state::numbered_blocks_fit;
 use relay_engine::{DrainEnd, Drainer, Filler, drain, fill, options_of, outcome_of};
 use relay_model::{FillEnd, Report};
+use seg_block::own_blocks;
 use std::alloc::{AllocError, Global};
 use std::sync::Wait;
 use std::thread::{Threads, join_mut};
@@ -94,7 +96,7 @@ pub fn settle(done: Pumped) -> Report
     requires reader { IsOf done.pipe done.reader }
     requires canceller { IsOf done.pipe done.canceller }
     ensures report { result ≡ done.report }
-    ensures closes { (closed : Closed) × ClosesPipe done.writer done.reader done.canceller closed }
+    ensures closes { (closed : Closed) × ClosesPipe done.pipe.name.blocks done.writer done.reader done.canceller closed }
 {
     let Pumped {
         report,
@@ -115,10 +117,15 @@ fn make_pipe(alloc: Global, job: &Job) -> Result<Made, AllocError>
     ensures reader { IfOk result (λ made. made.2 ≡ new_reader made.0) }
     ensures canceller { IfOk result (λ made. made.3 ≡ new_seat made.0 2) }
 {
-    match Pipe::make(alloc, options_of(job)) {
+    let options = options_of(job);
+    let blocks = own_blocks(alloc, options.segments, options.segment)?;
+    numbered_blocks_fit();
+    match Pipe::make(alloc, options, blocks) {
         Ok(made) => Ok(made),
-        Err(MakeError::OutOfMemory) => Err(AllocError),
-        Err(MakeError::BadOptions { .. }) => unreachable!(),
+        Err(refused) => match refused.error {
+            MakeError::OutOfMemory => Err(AllocError),
+            MakeError::BadOptions { .. } => unreachable!(),
+        },
     }
 }
 

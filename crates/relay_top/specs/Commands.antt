@@ -17,7 +17,7 @@ use Rattle.relay_words.specs.declared.command.ThreadedCommand.TheVariants.{Pump,
 
 -- ---- what a command does
 
--- A copy relays its source to its sink, and takes at most a segment behind a bad frame.
+-- A copy relays its source to its sink, and takes less than a segment behind a bad frame.
 pub record Copies (job : Job) (status : Status) (was is : World) : Type 0 where
   pub relays : Relays job status was is
   pub in_time : StopsInTime job was.source is.source

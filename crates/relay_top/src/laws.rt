@@ -47,7 +47,7 @@ pub fn what_is_untouched()
 
 /// But for want of memory, `copy` and `pump` made a run, which took what the source lost, wrote its translation to the sink, and
 /// the status and the line say how it ended. Where no device failed and all that the source held is lawful, the status is clean.
-/// `copy` takes at most a segment behind a bad frame.
+/// `copy` takes less than a segment behind a bad frame.
 pub fn what_relays_do()
     ensures relayed { (words : List (List ℕ)) (status : Status) (was is : World) → Runs words status was is → status ≢ Status.OutOfMemory →
         IfOk (command_of words) (λ command. IfRelay command (λ job. IsRelayed job status was is)) }

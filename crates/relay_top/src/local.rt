@@ -25,7 +25,7 @@ use std::alloc::Global;
 /// |---|---|
 /// | `Clean` | The source was read to its end, and all of it was relayed. |
 /// | `Usage` | The words are no command. Nothing is read or written. |
-/// | `BadFrame` | A frame is bad. What came before it is written, and nothing after it. At most a segment is read behind it. |
+/// | `BadFrame` | A frame is bad. What came before it is written, and nothing after it. Less than a segment is taken behind it. |
 /// | `Truncated` | The source ends within a frame. What came before that is written. |
 /// | `ReadFault` | A read failed. The whole frames that were taken are written. |
 /// | `WriteFault` | A write or a flush failed. |

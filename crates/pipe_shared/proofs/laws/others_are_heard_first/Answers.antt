@@ -1,4 +1,4 @@
-use Rattle.pipe_shared.proofs.HeardLemmas.{made, refused, won}
+use Rattle.pipe_turns.proofs.HeardLemmas.{made, refused, won}
 use Rattle.pipe_shared.proofs.laws.others_are_heard_first.Goals as goal
 
 pub returns-clause-made : goal.returns-clause-made

@@ -14,7 +14,7 @@ unreachable-requires c =
 
 pub returns-in-Ok-clause-closes : goal.returns-in-Ok-clause-closes
 returns-in-Ok-clause-closes c =
-    completes _ _ _ c.args.end c.in-Ok.done c.requires.may (c.others_are_heard_first.ensures.made 0 _ _ _ _ _ c.writer_has_its_seat.ensures c.in-Ok.ensures.made) c.in-Ok.ensures.made.lawful c.done_writer_has_its_seat.ensures
+    completes _ _ _ c.args.end c.in-Ok.done c.requires.may (c.others_are_heard_first.ensures.made 0 _ _ _ _ _ c.writer_has_its_seat.ensures c.in-Ok.ensures.made) c.done_writer_has_its_seat.ensures
     (makes_spends _ _ _ _ _ _ (ap (λ (d : List Run). closing d c.args.code) c.requires.may.settled) c.in-Ok.ensures.made)
 
 pub returns-in-Worn-clause-closes : goal.returns-in-Worn-clause-closes

@@ -13,7 +13,7 @@ loop-preserved g c =
     let kept = h.ensures.kept in
     record {
       pipe = h.ensures.back.0;
-      tried = tried c.loop.end h.field-0.end (Err h.field-0.fault) c.loop.invariant.tried (h.ensures.refused, record { draft = kept.0; free = kept.1 }) (sym c.is_tried_again.ensures ∙ c.if-not-is_tried_again.false);
+      tried = tried c.loop.end h.field-0.end (Err h.field-0.fault) c.loop.invariant.tried (h.ensures.refused, record { draft = kept.0; free = kept.1; hint = h.ensures.kept.2 }) (sym c.is_tried_again.ensures ∙ c.if-not-is_tried_again.false);
     }
 
 pub returns-in-Ok-clause-made : goal.returns-in-Ok-clause-made
@@ -29,6 +29,6 @@ pub returns-then-not-is_tried_again-clause-kept : goal.returns-then-not-is_tried
 returns-then-not-is_tried_again-clause-kept g c =
     let h = c.in-Err in
     let before = completion_tried c.args.self.now.name.options c.args.code c.args.w c.loop.end c.loop.invariant.tried in
-    let last = refused_flush h.field-0.fault c.loop.end h.field-0.end h.ensures.refused (record { draft = h.ensures.kept.0; free = h.ensures.kept.1 }) in
+    let last = refused_flush h.field-0.fault c.loop.end h.field-0.end h.ensures.refused (record { draft = h.ensures.kept.0; free = h.ensures.kept.1; hint = h.ensures.kept.2 }) in
     let all = as_before c.args.w c.loop.end h.field-0.end before last in
-    (all.draft, all.free, all.own)
+    (all.draft, all.free, all.hint, all.own)

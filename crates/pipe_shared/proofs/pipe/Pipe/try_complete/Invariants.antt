@@ -4,4 +4,4 @@ use Rattle.pipe_shared.proofs.pipe.Pipe.try_complete.Given as goal
 
 -- the commit of the draft, where there is one, and the completion
 abbrev pub ghosts-complete : goal.ghosts-complete
-ghosts-complete a = record { entries = reverse (closing a.part.now.draft a.code) }
+ghosts-complete a = record { entries = reverse (closing a.part.draft a.code) }

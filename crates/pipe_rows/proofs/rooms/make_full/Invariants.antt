@@ -1,0 +1,5 @@
+use Rattle.turn_cell.specs.Seat.{IsOf}
+use Rattle.pipe_rows.proofs.rooms.make_full.Given as goal
+
+abbrev pub invariant-loop-number : goal.invariant-loop-number
+invariant-loop-number g l = IsOf l.pipe l.w.seat

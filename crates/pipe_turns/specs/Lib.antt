@@ -1,0 +1,10 @@
+pub mod Name
+pub mod Log
+pub mod Heard
+pub mod State
+pub mod Faults
+pub mod Turns
+pub mod Ends
+pub mod Holding
+pub mod Lends
+pub mod Room
