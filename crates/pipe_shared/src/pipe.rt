@@ -82,8 +82,8 @@ struct Parking {
 }
 
 impl Pipe {
-    /// A pipe with these options over these blocks, and its three ends. All its memory but the blocks is taken here: some
-    /// 200 bytes for each.
+    /// A pipe with these options over these blocks, and its three ends. All its memory but the blocks is taken here: four
+    /// rings, each with a place for every block.
     pub fn make(alloc: Global, options: Options, blocks: Vec<Block>) -> Result<Made, MakeRefused>
         requires count { length blocks.items ≡ options.segments }
         requires sized { AreSized options.segment (names_of blocks.items) }
