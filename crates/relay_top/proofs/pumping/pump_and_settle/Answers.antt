@@ -6,4 +6,4 @@ pub returns-clause-reported : goal.returns-clause-reported
 returns-clause-reported g c =
     let done = c.in_ok-done.done in
     the_report c.args.job.now c.settle.result done.report _ _ _ _ c.settle.ensures.report
-    (c.settled_pump_is_reported.ensures c.args.job.now done.report done.writer done.reader done.canceller c.settle.ensures.closes.0 _ _ _ _ c.requires.limit c.in_ok-done.ensures.pumped c.settle.ensures.closes.1)
+    (c.settled_pump_is_reported.ensures c.args.job.now done.report done.writer done.reader done.canceller _ c.settle.ensures.closes.0 _ _ _ _ c.requires.limit c.in_ok-done.ensures.pumped c.settle.ensures.closes.1)
