@@ -4,11 +4,10 @@ use Rattle.std.specs.Prelude.{IsNone}
 use Rattle.std.specs.List.{AllByRecursion}
 use Rattle.std.proofs.lemmas.Grind.{flat_map-append}
 use Rattle.std.proofs.lemmas.List.{length-append, length-drop, drop-drop, get_or-drop}
-use Rattle.std.specs.Int.{w16, w32, to_be_bytes}
 use Rattle.frame_model.specs.declared.framing.Framing.{Framing}
-use Rattle.frame_model.specs.declared.framing.Framing.TheVariants.{Len4, Len2, Line}
 use Rattle.frame_model.specs.Spelling.{obstacle, spelling, text}
 use Rattle.frame_model.specs.Cut.{IsBytes, Whole, front}
+use Rattle.frame_model.proofs.FrameLemmas.{spelling_some}
 use Rattle.frame_model.proofs.FrontLemmas.{front_shorter}
 use Rattle.frame_model.proofs.LongestLemmas.{front_again, front_found}
 use Rattle.frame_fronts.specs.Fronts.{IsFront, IsSpelt, IsWhole}
@@ -109,15 +108,10 @@ fronts_joined input output max x len frames n more ps qs front behind =
       each = all_joined (λ p. (length p ≤ max) × IsNone (obstacle input p) × IsNone (obstacle output p)) ps qs front.each behind.each;
     }
 
-spelling_long : (f : Framing) (p : List ℕ) → 1 ≤ length (spelling f p)
-spelling_long Len4 p = omega (arith, length-append (to_be_bytes w32 (length p) ++ p) [], length-append (to_be_bytes w32 (length p)) p)
-spelling_long Len2 p = omega (arith, length-append (to_be_bytes w16 (length p) ++ p) [], length-append (to_be_bytes w16 (length p)) p)
-spelling_long Line p = omega (arith, length-append p (10 ∷ []))
-
 -- frames have a byte each, and lie within the bytes
 text_long : (f : Framing) (ps : List (List ℕ)) → length ps ≤ length (text f ps)
 text_long f [] = omega arith
-text_long f (p ∷ ps) = omega (arith, text_long f ps, spelling_long f p, length-append (spelling f p) (text f ps))
+text_long f (p ∷ ps) = omega (arith, text_long f ps, spelling_some f p, length-append (spelling f p) (text f ps))
 
 pub front_few : (input output : Framing) (max : ℕ) (x : List ℕ) (len frames : ℕ) (ps : List (List ℕ)) → IsFront input output max x len frames ps → (frames ≤ len) × (len ≤ length x)
 front_few input output max x len frames ps front = (

@@ -1,11 +1,12 @@
 //! The frame at the front of a slice.
 
-ghost use Rattle.std.specs.Prelude.{◌≡◌, ◌==◌, ◌≤◌, ◌+◌, length, min, drop, position, IfNone, IfSome};
+ghost use Rattle.std.specs.Prelude.{◌≡◌, ◌==◌, ◌≤◌, ◌<◌, ◌⊎◌, ◌+◌, length, min, drop, position, IfNone, IfSome, Some};
+ghost use Rattle.frame_model.specs.Heads.{told_by};
 ghost use Rattle.frame_model.specs.Spelling.{is_line_feed};
 ghost use Rattle.frame_fronts.specs.Fronts.{HasNoFrame, IsWhole};
 
 use byte_kernels::index_near;
-use frame_model::Framing;
+use frame_model::{Framing, Head, head_at_front};
 
 /// Where a frame's payload lies, and how many bytes the frame has.
 #[derive(Clone, Copy, Debug)]
@@ -21,54 +22,44 @@ pub(crate) fn whole_frame(framing: Framing, max: u64, bytes: &[u8]) -> Option<Pl
     ensures whole { IfSome result (λ place. IsWhole framing max bytes.now place.from place.len place.end) }
     ensures none { IfNone result (HasNoFrame framing max bytes.now) }
 {
-    match framing {
-        Framing::Len4 => behind_four(max, bytes),
-        Framing::Len2 => behind_two(max, bytes),
-        Framing::Line => line(max, bytes),
+    match head_at_front(framing, bytes) {
+        Some(head) => behind_head(max, bytes, head),
+        None => line(max, bytes),
     }
 }
 
+/// As many bytes as a head tells, where they are there.
 #[inline(always)]
-fn behind_four(max: u64, bytes: &[u8]) -> Option<Place>
-    ensures whole { IfSome result (λ place. IsWhole Framing.Len4 max bytes.now place.from place.len place.end) }
-    ensures none { IfNone result (HasNoFrame Framing.Len4 max bytes.now) }
+fn behind_head(max: u64, bytes: &[u8], head: Head) -> Option<Place>
+    requires told { (f : Framing) × (told_by f bytes.now ≡ Some head) }
+    ensures whole { (f : Framing) → told_by f bytes.now ≡ Some head → IfSome result (λ place. IsWhole f max bytes.now place.from place.len place.end) }
+    ensures none { (f : Framing) → told_by f bytes.now ≡ Some head → IfNone result (HasNoFrame f max bytes.now) }
 {
-    let Some((head, behind)) = bytes.split_first_chunk::<4>() else {
-        return None;
-    };
-    let len = u32::from_be_bytes(*head) as usize;
-    if len as u64 > max {
-        return None;
+    match head {
+        Head::Told { bytes: from, len } => payload_behind(max, bytes, from as usize, len),
+        Head::Short => None,
+        Head::Broken { .. } => None,
     }
-    if behind.len() < len {
-        return None;
-    }
-    Some(Place {
-        from: 4,
-        len,
-        end: 4 + len,
-    })
 }
 
+/// A payload of `len` bytes behind the first `from`, where it has at most `max` and they are there.
 #[inline(always)]
-fn behind_two(max: u64, bytes: &[u8]) -> Option<Place>
-    ensures whole { IfSome result (λ place. IsWhole Framing.Len2 max bytes.now place.from place.len place.end) }
-    ensures none { IfNone result (HasNoFrame Framing.Len2 max bytes.now) }
+fn payload_behind(max: u64, bytes: &[u8], from: usize, len: u64) -> Option<Place>
+    requires { from ≤ length bytes.now }
+    ensures whole { IfSome result (λ place. (place ≡ record { from = from; len = len; end = from + len }) × (len ≤ max) × (from + len ≤ length bytes.now)) }
+    ensures none { IfNone result ((max < len) ⊎ (length bytes.now < from + len)) }
 {
-    let Some((head, behind)) = bytes.split_first_chunk::<2>() else {
-        return None;
-    };
-    let len = u16::from_be_bytes(*head) as usize;
-    if len as u64 > max {
+    if len > max {
         return None;
     }
-    if behind.len() < len {
+    if ((bytes.len() - from) as u64) < len {
         return None;
     }
+    let len = len as usize;
     Some(Place {
-        from: 2,
+        from,
         len,
-        end: 2 + len,
+        end: from + len,
     })
 }
 

@@ -1,38 +1,37 @@
 -- What stands first in the cut is what stands at the front.
-use Rattle.std.proofs.Common.{◌≡◌, ◌↔◌, ◌+◌, ℕ, arith, inl, inr, min, Bool, true, false, List, [], ◌∷◌, ◌++◌, length, drop, refl, sym, ap, ◌∙◌, zero-add}
+use Rattle.std.proofs.Common.{◌≡◌, ◌↔◌, ◌+◌, ℕ, arith, inl, inr, min, Bool, true, false, List, [], ◌∷◌, ◌++◌, length, drop, refl, sym, ap, subst, ◌<◌, ◌∙◌, zero-add}
 use Rattle.std.specs.Prelude.{slice_range}
 use Rattle.std.proofs.lemmas.List.{append-nil}
 use Rattle.std.proofs.Math.Nat.{sub-zero}
 use Rattle.std.proofs.Math.Seq.{take-length, drop-length}
 use Rattle.frame_model.specs.declared.framing.Framing.{Framing}
-use Rattle.frame_model.specs.declared.framing.Framing.TheVariants.{Len4, Len2, Line}
+use Rattle.frame_model.specs.declared.framing.Framing.TheVariants.{Line}
 use Rattle.frame_model.specs.declared.framing.BadKind.{BadKind}
 use Rattle.frame_grammar.specs.declared.cutter.Cut.TheVariants as cuts
-use Rattle.frame_model.specs.Spelling.{head_of, tail_of}
-use Rattle.frame_model.specs.Cut.{Front, Whole, Refused, Partial, front, last_line, verdict_on, cut, End, behind_frame, MayCome, IsRefused}
-use Rattle.frame_grammar.specs.Answers.{frame_of, first_of, first_in, answer_on, Tells}
+use Rattle.frame_model.specs.Heads.{Layout, Counted, Lines, layout}
+use Rattle.frame_model.specs.Spelling.{head_of, longest_frame, tail_of}
+use Rattle.frame_model.specs.Cut.{Cutting, Front, Whole, Refused, Partial, front, last_line_in, verdict_in, cut, End, behind_frame, MayCome, IsRefused}
+use Rattle.frame_grammar.specs.Answers.{frame_in, frame_of, first_of, first_in, answer_in, answer_on, Tells}
+use Rattle.frame_model.proofs.HeadLemmas.{lines_is_line}
 use Rattle.frame_model.proofs.FrontLemmas.{front_more, front_empty}
-use Rattle.frame_model.proofs.FrameLemmas.{frame_at, spelling_len}
+use Rattle.frame_model.proofs.FrameLemmas.{frame_at, partial_short, spelling_len}
 use Rattle.frame_model.proofs.CutLemmas.{cut_whole, cut_refused, cut_partial}
 use Rattle.frame_model.proofs.RefusedLemmas.{refused}
 
-partial_first : (f : Framing) (x : List ℕ) (at_end : Bool) → first_of f x (last_line f Partial at_end x) (verdict_on f Partial at_end 0 x) ≡ answer_on f x at_end Partial
-partial_first Len4 [] true = refl
-partial_first Len4 (b ∷ x) true = refl
-partial_first Len2 [] true = refl
-partial_first Len2 (b ∷ x) true = refl
-partial_first Line [] true = refl
-partial_first Line (b ∷ x) true = refl
-partial_first Len4 x false = refl
-partial_first Len2 x false = refl
-partial_first Line x false = refl
+partial_first : (l : Layout) (x : List ℕ) (at_end : Bool) → first_of l x (last_line_in l Partial at_end x) (verdict_in l Partial at_end 0 x) ≡ answer_in l x at_end Partial
+partial_first (Counted heads) [] true = refl
+partial_first (Counted heads) (b ∷ x) true = refl
+partial_first (Counted heads) x false = refl
+partial_first Lines [] true = refl
+partial_first Lines (b ∷ x) true = refl
+partial_first Lines x false = refl
 
 pub first_is : (f : Framing) (max : ℕ) (x : List ℕ) (at_end : Bool) → first_in f max x at_end ≡ answer_on f x at_end (front f max x)
 first_is f max x at_end =
     (elim (front f max x) as (λ v. front f max x ≡ v → first_in f max x at_end ≡ answer_on f x at_end (front f max x)) [
-      | Whole p more ↦ λ e. ap (λ c. first_of f x c.payloads c.verdict) (cut_whole f max x p more at_end e) ∙ rw e refl
-      | Refused kind ↦ λ e. ap (λ c. first_of f x c.payloads c.verdict) (cut_refused f max x kind at_end e) ∙ rw e refl
-      | Partial ↦ λ e. ap (λ c. first_of f x c.payloads c.verdict) (cut_partial f max x at_end e) ∙ rw e (partial_first f x at_end)
+      | Whole p more ↦ λ e. ap (λ c. first_of (layout f) x c.payloads c.verdict) (cut_whole f max x p more at_end e) ∙ rw e refl
+      | Refused kind ↦ λ e. ap (λ c. first_of (layout f) x c.payloads c.verdict) (cut_refused f max x kind at_end e) ∙ rw e refl
+      | Partial ↦ λ e. ap (λ c. first_of (layout f) x c.payloads c.verdict) (cut_partial f max x at_end e) ∙ rw e (partial_first (layout f) x at_end)
     ]) refl
 
 -- ---- a whole frame
@@ -72,16 +71,23 @@ last_line_told max b x e =
       goes_on = unended_goes_on max p (cut_partial Line max p true e);
     })
 
+abbrev partial_cutting : Layout → List ℕ → Bool → Cutting
+partial_cutting l x at_end = record { payloads = last_line_in l Partial at_end x; verdict = verdict_in l Partial at_end 0 x }
+
+partial_cut : (f : Framing) (l : Layout) → layout f ≡ l → (max : ℕ) (x : List ℕ) (at_end : Bool) → front f max x ≡ Partial → cut f max x at_end ≡ partial_cutting l x at_end
+partial_cut f l is max x at_end e = cut_partial f max x at_end e ∙ ap (λ (m : Layout). partial_cutting m x at_end) is
+
+by_layout : (f : Framing) (l : Layout) → layout f ≡ l → (max : ℕ) (x : List ℕ) (at_end : Bool) → front f max x ≡ Partial → Tells f max x at_end (answer_in l x at_end Partial)
+by_layout f (Counted heads) is max x false e = partial_cut f (Counted heads) is max x false e
+by_layout f Lines is max x false e = partial_cut f Lines is max x false e
+by_layout f (Counted heads) is max [] true e = partial_cut f (Counted heads) is max [] true e
+by_layout f Lines is max [] true e = partial_cut f Lines is max [] true e
+by_layout f (Counted heads) is max (b ∷ x) true e = partial_cut f (Counted heads) is max (b ∷ x) true e
+by_layout f Lines is max (b ∷ x) true e =
+    subst (λ (g : Framing). front g max (b ∷ x) ≡ Partial → Tells g max (b ∷ x) true (frame_in Lines (b ∷ x) (b ∷ x))) (sym (lines_is_line f is)) (last_line_told max b x) e
+
 partial_told : (f : Framing) (max : ℕ) (x : List ℕ) (at_end : Bool) → front f max x ≡ Partial → Tells f max x at_end (answer_on f x at_end Partial)
-partial_told Len4 max x false e = cut_partial Len4 max x false e
-partial_told Len2 max x false e = cut_partial Len2 max x false e
-partial_told Line max x false e = cut_partial Line max x false e
-partial_told Len4 max [] true e = cut_partial Len4 max [] true e
-partial_told Len2 max [] true e = cut_partial Len2 max [] true e
-partial_told Line max [] true e = cut_partial Line max [] true e
-partial_told Len4 max (b ∷ x) true e = cut_partial Len4 max (b ∷ x) true e
-partial_told Len2 max (b ∷ x) true e = cut_partial Len2 max (b ∷ x) true e
-partial_told Line max (b ∷ x) true e = last_line_told max b x e
+partial_told f = by_layout f (layout f) refl
 
 pub told : (f : Framing) (max : ℕ) (x : List ℕ) (at_end : Bool) → Tells f max x at_end (answer_on f x at_end (front f max x))
 told f max x at_end =
@@ -93,22 +99,37 @@ told f max x at_end =
 
 -- ---- no frame, however it goes on
 
-bad_is_refused : (f : Framing) (x : List ℕ) (at_end : Bool) (v : Front) (kind : BadKind) → answer_on f x at_end v ≡ cuts.Bad kind → v ≡ Refused kind
-bad_is_refused f x at_end (Refused k) kind e = cc
-bad_is_refused Len4 x at_end (Whole p more) kind e = absurd cc
-bad_is_refused Len2 x at_end (Whole p more) kind e = absurd cc
-bad_is_refused Line x at_end (Whole p more) kind e = absurd cc
-bad_is_refused Len4 x false Partial kind e = absurd cc
-bad_is_refused Len2 x false Partial kind e = absurd cc
-bad_is_refused Line x false Partial kind e = absurd cc
-bad_is_refused Len4 [] true Partial kind e = absurd cc
-bad_is_refused Len2 [] true Partial kind e = absurd cc
-bad_is_refused Line [] true Partial kind e = absurd cc
-bad_is_refused Len4 (b ∷ x) true Partial kind e = absurd cc
-bad_is_refused Len2 (b ∷ x) true Partial kind e = absurd cc
-bad_is_refused Line (b ∷ x) true Partial kind e = absurd cc
+bad_is_refused : (l : Layout) (x : List ℕ) (at_end : Bool) (v : Front) (kind : BadKind) → answer_in l x at_end v ≡ cuts.Bad kind → v ≡ Refused kind
+bad_is_refused l x at_end (Refused k) kind e = cc
+bad_is_refused (Counted heads) x at_end (Whole p more) kind e = absurd cc
+bad_is_refused (Counted heads) x false Partial kind e = absurd cc
+bad_is_refused (Counted heads) [] true Partial kind e = absurd cc
+bad_is_refused (Counted heads) (b ∷ x) true Partial kind e = absurd cc
+bad_is_refused Lines x at_end (Whole p more) kind e = absurd cc
+bad_is_refused Lines x false Partial kind e = absurd cc
+bad_is_refused Lines [] true Partial kind e = absurd cc
+bad_is_refused Lines (b ∷ x) true Partial kind e = absurd cc
 
 pub bad : (f : Framing) (max : ℕ) (x : List ℕ) (at_end : Bool) (kind : BadKind) → (answer_on f x at_end (front f max x) ≡ cuts.Bad kind) ↔ IsRefused f max x kind
 bad f max x at_end kind =
     let both = refused f max x kind in
-    (λ e. both.0 (bad_is_refused f x at_end (front f max x) kind e), λ h. rw (both.1 h) refl)
+    (λ e. both.0 (bad_is_refused (layout f) x at_end (front f max x) kind e), λ h. rw (both.1 h) refl)
+
+-- ---- less than a frame, while more may come
+
+same : (v : Front) → v ≡ v
+same v = refl
+
+more_is_partial : (l : Layout) (x : List ℕ) (at_end : Bool) (v : Front) → answer_in l x at_end v ≡ cuts.More → v ≡ Partial
+more_is_partial l x at_end (Refused k) e = absurd cc
+more_is_partial (Counted heads) x at_end (Whole p more) e = absurd cc
+more_is_partial (Counted heads) x false Partial e = same Partial
+more_is_partial (Counted heads) [] true Partial e = absurd cc
+more_is_partial (Counted heads) (b ∷ x) true Partial e = absurd cc
+more_is_partial Lines x at_end (Whole p more) e = absurd cc
+more_is_partial Lines x false Partial e = same Partial
+more_is_partial Lines [] true Partial e = absurd cc
+more_is_partial Lines (b ∷ x) true Partial e = absurd cc
+
+pub short : (f : Framing) (max : ℕ) (x : List ℕ) (at_end : Bool) → answer_on f x at_end (front f max x) ≡ cuts.More → length x < longest_frame f max
+short f max x at_end e = partial_short f max x (more_is_partial (layout f) x at_end (front f max x) e)

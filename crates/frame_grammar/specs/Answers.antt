@@ -1,18 +1,22 @@
 -- What stands first in an input.
-use Rattle.std.specs.Prelude.{ℕ, ◌≡◌, ◌+◌, ◌≤◌, ◌<◌, ◌⊎◌, min, Bool, true, false, List, [], ◌∷◌, ◌++◌, length, drop, slice_range}
+use Rattle.std.specs.Prelude.{ℕ, ◌≡◌, ◌+◌, ◌≤◌, ◌<◌, ◌⊎◌, min, nat_lt, if◌then◌else◌, Bool, true, false, List, [], ◌∷◌, ◌++◌, length, drop, slice_range}
 use Rattle.frame_model.specs.declared.framing.Framing.{Framing}
-use Rattle.frame_model.specs.declared.framing.Framing.TheVariants.{Line}
+use Rattle.frame_model.specs.Heads.{Layout, Lines, layout}
+use Rattle.frame_model.specs.declared.framing.BadKind.TheVariants.{TooBig}
 use Rattle.frame_grammar.specs.declared.cutter.Cut.{Cut}
 use Rattle.frame_grammar.specs.declared.cutter.Cut.TheVariants as cuts
-use Rattle.frame_model.specs.Spelling.{head_of, spelling, tail_of}
+use Rattle.frame_model.specs.Spelling.{head_in, spelling, tail_in}
 use Rattle.frame_model.specs.Cut.{Front, Whole, Refused, Partial, Verdict, Open, End, Rest, Bad, cut, behind_frame, MayCome}
 
 -- The answer where this is the first payload. Its frame ends behind its tail, or as a last line with the input.
-abbrev pub frame_of : Framing → List ℕ → List ℕ → Cut
-frame_of f x p =
-    let from = length (head_of f (length p)) in
+abbrev pub frame_in : Layout → List ℕ → List ℕ → Cut
+frame_in l x p =
+    let from = length (head_in l (length p)) in
     let to = from + length p in
-    cuts.Frame from to (min (to + length (tail_of f)) (length x))
+    cuts.Frame from to (min (to + length (tail_in l)) (length x))
+
+abbrev pub frame_of : Framing → List ℕ → List ℕ → Cut
+frame_of f x p = frame_in (layout f) x p
 
 -- The answer where there is no payload.
 abbrev pub answer_of : Verdict → Cut
@@ -22,13 +26,13 @@ answer_of (Rest place) = cuts.Rest
 answer_of (Bad place kind) = cuts.Bad kind
 
 -- The answer of an input of which these are the payloads and this is the verdict.
-abbrev pub first_of : Framing → List ℕ → List (List ℕ) → Verdict → Cut
-first_of f x [] verdict = answer_of verdict
-first_of f x (p ∷ payloads) verdict = frame_of f x p
+abbrev pub first_of : Layout → List ℕ → List (List ℕ) → Verdict → Cut
+first_of l x [] verdict = answer_of verdict
+first_of l x (p ∷ payloads) verdict = frame_in l x p
 
 -- The first payload of the cut, with its bounds, or where there is none its verdict.
 abbrev pub first_in : Framing → ℕ → List ℕ → Bool → Cut
-first_in f max x at_end = let c = cut f max x at_end in first_of f x c.payloads c.verdict
+first_in f max x at_end = let c = cut f max x at_end in first_of (layout f) x c.payloads c.verdict
 
 -- An input begins with a frame that ends at `end`, and the frame's payload lies from `from` up to `to`.
 pub record BeginsWithFrame (f : Framing) (max : ℕ) (x : List ℕ) (at_end : Bool) (from to end : ℕ) : Type 0 where
@@ -51,10 +55,26 @@ Tells f max x at_end cuts.Rest = cut f max x at_end ≡ record { payloads = []; 
 Tells f max x at_end cuts.End = cut f max x at_end ≡ record { payloads = []; verdict = End }
 
 -- The answer from what stands at the front.
+abbrev pub answer_in : Layout → List ℕ → Bool → Front → Cut
+answer_in l x at_end (Whole p more) = frame_in l x p
+answer_in l x at_end (Refused kind) = cuts.Bad kind
+answer_in l x false Partial = cuts.More
+answer_in l [] true Partial = cuts.End
+answer_in Lines (b ∷ x) true Partial = frame_in Lines (b ∷ x) (b ∷ x)
+answer_in l (b ∷ x) true Partial = cuts.Rest
+
 abbrev pub answer_on : Framing → List ℕ → Bool → Front → Cut
-answer_on f x at_end (Whole p more) = frame_of f x p
-answer_on f x at_end (Refused kind) = cuts.Bad kind
-answer_on f x false Partial = cuts.More
-answer_on f [] true Partial = cuts.End
-answer_on Line (b ∷ x) true Partial = frame_of Line (b ∷ x) (b ∷ x)
-answer_on f (b ∷ x) true Partial = cuts.Rest
+answer_on f x at_end before = answer_in (layout f) x at_end before
+
+-- Less than a frame, behind a head or within it.
+abbrev pub answer_within : List ℕ → Bool → Cut
+answer_within x false = cuts.More
+answer_within [] true = cuts.End
+answer_within (b ∷ x) true = cuts.Rest
+
+-- The answer behind a head of `from` bytes that tells `len`.
+abbrev pub HeadAnswers : ℕ → List ℕ → Bool → ℕ → ℕ → Cut → Type 0
+HeadAnswers max x at_end from len answer =
+    answer ≡ (if nat_lt max len then cuts.Bad (TooBig len)
+    else if nat_lt (length x) (from + len) then answer_within x at_end
+    else cuts.Frame from (from + len) (from + len))

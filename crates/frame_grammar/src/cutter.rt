@@ -1,13 +1,14 @@
 //! What stands first in a stream of bytes.
 
-ghost use Rattle.std.specs.Prelude.{◌≡◌, ◌<◌, ◌≤◌, ◌↔◌, length, position, take, IsNone};
+ghost use Rattle.std.specs.Prelude.{◌≡◌, ◌<◌, ◌≤◌, ◌↔◌, length, position, take, IsNone, Some};
+ghost use Rattle.frame_model.specs.Heads.{told_by};
 ghost use Rattle.frame_model.specs.Spelling.{is_line_feed, longest_frame};
 ghost use Rattle.frame_model.specs.Cut.{front, IsRefused, Partial};
 ghost use Rattle.span_seq.specs.Sequence.{bytes};
-ghost use Rattle.frame_grammar.specs.Answers.{answer_on, first_in, Tells};
+ghost use Rattle.frame_grammar.specs.Answers.{answer_on, answer_within, first_in, HeadAnswers, Tells};
 
 use crate::line_feed::line_len;
-use frame_model::{BadKind, Framing};
+use frame_model::{BadKind, Framing, Head, LONGEST_HEAD, head_at_front, heads_are_short};
 use seq_reader::SeqReader;
 use span_seq::{Sequence, Spans};
 
@@ -27,7 +28,7 @@ pub enum Cut {
 }
 
 /// Cuts the first frame off a sequence, whose payload may have at most `max` bytes. `at_end` says that nothing comes behind it.
-/// `Bad` is always `TooBig`. Where more is wanted, there is less than one longest frame.
+/// `Bad` is never `Unspellable`. Where more is wanted, there is less than one longest frame.
 ///
 /// Of lines, the first `known` bytes were searched before and have no line feed; they aren't searched again. Where more of a
 /// line is wanted, none of its bytes is a line feed. Nothing else depends on `known`.
@@ -48,58 +49,80 @@ pub fn next_frame<C: Spans>(
     ensures short { result ≡ Cut.More → length (bytes seq.now) < longest_frame framing max }
     ensures unended { result ≡ Cut.More → framing ≡ Framing.Line → IsNone (position is_line_feed (bytes seq.now)) }
 {
-    match framing {
-        Framing::Len4 => behind_four(max, seq, at_end),
-        Framing::Len2 => behind_two(max, seq, at_end),
-        Framing::Line => line(max, seq, known, at_end),
+    match front_head(framing, seq) {
+        Some(head) => behind_head(max, seq, head, at_end),
+        None => line(max, seq, known, at_end),
     }
 }
 
+/// What the front of a sequence tells, where the framing has heads.
 #[inline(always)]
-fn behind_four<C: Spans>(max: u64, seq: &Sequence<'_, C>, at_end: bool) -> Cut
-    ensures { result ≡ answer_on Framing.Len4 (bytes seq.now) at_end (front Framing.Len4 max (bytes seq.now)) }
+fn front_head<C: Spans>(framing: Framing, seq: &Sequence<'_, C>) -> Option<Head>
+    ensures { result ≡ told_by framing (bytes seq.now) }
 {
-    let Some(len) = SeqReader::new(*seq).read_u32_be() else {
-        return incomplete(seq, at_end);
-    };
-    let len = u64::from(len);
+    let first = seq.first();
+    if first.len() < LONGEST_HEAD {
+        return gathered_head(framing, seq);
+    }
+    heads_are_short();
+    head_at_front(framing, first)
+}
+
+/// The same where its bytes may lie in many spans.
+fn gathered_head<C: Spans>(framing: Framing, seq: &Sequence<'_, C>) -> Option<Head>
+    ensures { result ≡ told_by framing (bytes seq.now) }
+{
+    let mut front = [0; LONGEST_HEAD];
+    heads_are_short();
+    if SeqReader::new(*seq).copy_to(&mut front) {
+        return head_at_front(framing, &front);
+    }
+    let count = seq.len() as usize;
+    seq.copy_to(&mut front);
+    head_at_front(framing, &front[..count])
+}
+
+/// As many bytes as a head tells.
+#[inline(always)]
+fn behind_head<C: Spans>(max: u64, seq: &Sequence<'_, C>, head: Head, at_end: bool) -> Cut
+    requires told { (f : Framing) × (told_by f (bytes seq.now) ≡ Some head) }
+    ensures { (f : Framing) → told_by f (bytes seq.now) ≡ Some head → result ≡ answer_on f (bytes seq.now) at_end (front f max (bytes seq.now)) }
+{
+    match head {
+        Head::Short => incomplete(seq, at_end),
+        Head::Broken { bytes } => Cut::Bad(BadKind::BadHead { bytes }),
+        Head::Told { bytes, len } => payload_behind(max, seq, bytes, len, at_end),
+    }
+}
+
+/// A payload of `len` bytes behind the first `from`.
+#[inline(always)]
+fn payload_behind<C: Spans>(
+    max: u64,
+    seq: &Sequence<'_, C>,
+    from: u64,
+    len: u64,
+    at_end: bool,
+) -> Cut
+    requires { from ≤ length (bytes seq.now) }
+    ensures { HeadAnswers max (bytes seq.now) at_end from len result }
+{
     if len > max {
         return Cut::Bad(BadKind::TooBig { len });
     }
-    if seq.len() < 4 + len {
+    if seq.len() - from < len {
         return incomplete(seq, at_end);
     }
     Cut::Frame {
-        from: 4,
-        to: 4 + len,
-        end: 4 + len,
+        from,
+        to: from + len,
+        end: from + len,
     }
 }
 
-#[inline(always)]
-fn behind_two<C: Spans>(max: u64, seq: &Sequence<'_, C>, at_end: bool) -> Cut
-    ensures { result ≡ answer_on Framing.Len2 (bytes seq.now) at_end (front Framing.Len2 max (bytes seq.now)) }
-{
-    let Some(len) = SeqReader::new(*seq).read_u16_be() else {
-        return incomplete(seq, at_end);
-    };
-    let len = u64::from(len);
-    if len > max {
-        return Cut::Bad(BadKind::TooBig { len });
-    }
-    if seq.len() < 2 + len {
-        return incomplete(seq, at_end);
-    }
-    Cut::Frame {
-        from: 2,
-        to: 2 + len,
-        end: 2 + len,
-    }
-}
-
+/// Less than a frame.
 fn incomplete<C: Spans>(seq: &Sequence<'_, C>, at_end: bool) -> Cut
-    ensures four { result ≡ answer_on Framing.Len4 (bytes seq.now) at_end Partial }
-    ensures two { result ≡ answer_on Framing.Len2 (bytes seq.now) at_end Partial }
+    ensures { result ≡ answer_within (bytes seq.now) at_end }
 {
     if !at_end {
         Cut::More

@@ -1,28 +1,27 @@
 -- Which verdicts an input can have at its end, and which before it.
 use Rattle.std.proofs.Common.{◌≢◌, ℕ, true, false, List, [], ◌∷◌, length}
 use Rattle.frame_model.specs.declared.framing.Framing.{Framing}
-use Rattle.frame_model.specs.declared.framing.Framing.TheVariants.{Len4, Len2, Line}
+use Rattle.frame_model.specs.Heads.{Layout, Counted, Lines, layout}
 use Rattle.frame_model.specs.declared.framing.BadKind.{BadKind}
 use Rattle.frame_model.specs.Spelling.{text}
-use Rattle.frame_model.specs.Cut.{Front, Whole, Refused, Partial, front, frames, Verdict, Open, End, Rest, Bad, verdict_on, cut}
+use Rattle.frame_model.specs.Cut.{Front, Whole, Refused, Partial, front, frames, Verdict, Open, End, Rest, Bad, verdict_in, verdict_on, cut}
 use Rattle.frame_model.specs.Translation.{spellable, from_unspellable, verdict_at, translation_between}
 
 -- ---- at the end
 
+not_open_in : (l : Layout) (before : Front) (place : ℕ) (rest : List ℕ) → verdict_in l before true place rest ≢ Open
+not_open_in l (Refused kind) place rest e = cc
+not_open_in (Counted heads) (Whole p more) place [] e = cc
+not_open_in (Counted heads) (Whole p more) place (b ∷ rest) e = cc
+not_open_in (Counted heads) Partial place [] e = cc
+not_open_in (Counted heads) Partial place (b ∷ rest) e = cc
+not_open_in Lines (Whole p more) place [] e = cc
+not_open_in Lines (Whole p more) place (b ∷ rest) e = cc
+not_open_in Lines Partial place [] e = cc
+not_open_in Lines Partial place (b ∷ rest) e = cc
+
 cut_not_open : (f : Framing) (before : Front) (place : ℕ) (rest : List ℕ) → verdict_on f before true place rest ≢ Open
-cut_not_open f (Refused kind) place rest e = cc
-cut_not_open Len4 (Whole p more) place [] e = cc
-cut_not_open Len2 (Whole p more) place [] e = cc
-cut_not_open Line (Whole p more) place [] e = cc
-cut_not_open Len4 (Whole p more) place (b ∷ rest) e = cc
-cut_not_open Len2 (Whole p more) place (b ∷ rest) e = cc
-cut_not_open Line (Whole p more) place (b ∷ rest) e = cc
-cut_not_open Len4 Partial place [] e = cc
-cut_not_open Len2 Partial place [] e = cc
-cut_not_open Line Partial place [] e = cc
-cut_not_open Len4 Partial place (b ∷ rest) e = cc
-cut_not_open Len2 Partial place (b ∷ rest) e = cc
-cut_not_open Line Partial place (b ∷ rest) e = cc
+cut_not_open f = not_open_in (layout f)
 
 -- what can't be spelt is bad, so it is none of these
 no_other_at : (output : Framing) (place : ℕ) (left : List (List ℕ)) (v w : Verdict) → ((at : ℕ) (kind : BadKind) → Bad at kind ≢ w) → v ≢ w → verdict_at output place left v ≢ w
@@ -47,14 +46,15 @@ record IsOpenOrBad (v : Verdict) : Type 0 where
 open_is : IsOpenOrBad Open
 open_is = record { no_end = λ e. cc; no_rest = λ place e. cc }
 
+open_or_bad_in : (l : Layout) (before : Front) (place : ℕ) (rest : List ℕ) → IsOpenOrBad (verdict_in l before false place rest)
+open_or_bad_in l (Refused kind) place rest = record { no_end = λ e. cc; no_rest = λ at e. cc }
+open_or_bad_in (Counted heads) (Whole p more) place rest = open_is
+open_or_bad_in (Counted heads) Partial place rest = open_is
+open_or_bad_in Lines (Whole p more) place rest = open_is
+open_or_bad_in Lines Partial place rest = open_is
+
 cut_open_or_bad : (f : Framing) (before : Front) (place : ℕ) (rest : List ℕ) → IsOpenOrBad (verdict_on f before false place rest)
-cut_open_or_bad f (Refused kind) place rest = record { no_end = λ e. cc; no_rest = λ at e. cc }
-cut_open_or_bad Len4 (Whole p more) place rest = open_is
-cut_open_or_bad Len2 (Whole p more) place rest = open_is
-cut_open_or_bad Line (Whole p more) place rest = open_is
-cut_open_or_bad Len4 Partial place rest = open_is
-cut_open_or_bad Len2 Partial place rest = open_is
-cut_open_or_bad Line Partial place rest = open_is
+cut_open_or_bad f = open_or_bad_in (layout f)
 
 before_end : (input : Framing) (max : ℕ) (x : List ℕ) → IsOpenOrBad (cut input max x false).verdict
 before_end input max x = let rest = (frames input max x).1 in cut_open_or_bad input (front input max rest) _ rest

@@ -1,81 +1,94 @@
 -- What stands at the front of an input still stands there when more comes.
-use Rattle.std.proofs.Common.{◌≡◌, ◌<◌, ◌≤◌, ◌+◌, ℕ, Bool, true, false, cond, ◌&&◌, nat_lt, nat_le, List, [], ◌∷◌, ◌++◌, length, take, drop, refl, ap, arith, inl, inr, ◌⊎◌, lit<}
+use Rattle.std.proofs.Common.{◌≡◌, ◌<◌, ◌≤◌, ◌+◌, ℕ, Bool, true, false, cond, ◌&&◌, nat_lt, nat_le, List, [], ◌∷◌, ◌++◌, length, take, drop, refl, sym, ap, arith, inl, inr, ◌⊎◌}
 use Rattle.std.specs.List.{position_or_len}
-use Rattle.std.specs.Int.{Width, w16, w32, byte_len, from_be_bytes}
 use Rattle.std.proofs.lemmas.Bool.{ltb-true, ltb-false, leb-true, leb-false, lt-ltb, le-ltb, le-leb, lt-leb, and_parts, and_cases, and_right, cases_Bool}
 use Rattle.std.proofs.lemmas.List.{length-append, length-drop, take-append-le, drop-append-le}
 use Rattle.frame_model.specs.declared.framing.Framing.{Framing}
-use Rattle.frame_model.specs.declared.framing.Framing.TheVariants.{Len4, Len2, Line}
 use Rattle.frame_model.specs.declared.framing.BadKind.{BadKind}
-use Rattle.frame_model.specs.declared.framing.BadKind.TheVariants.{TooBig}
+use Rattle.frame_model.specs.declared.framing.BadKind.TheVariants.{TooBig, BadHead}
+use Rattle.frame_model.specs.declared.head.Head.{Head}
+use Rattle.frame_model.specs.declared.head.Head.TheVariants.{Short, Broken, Told}
+use Rattle.frame_model.specs.Heads.{Heads, Layout, Counted, Lines, layout}
 use Rattle.frame_model.specs.Spelling.{is_line_feed}
-use Rattle.frame_model.specs.Cut.{Whole, Refused, Partial, front, counted_front, line_front}
+use Rattle.frame_model.specs.Cut.{Whole, Refused, Partial, front, front_in, headed_front, line_front}
+use Rattle.frame_model.proofs.HeadLemmas.{AreLawful, IsLawful, lawful}
 
 pub chosen : {A : Type 0} (b : Bool) (x y z : A) → cond b x y ≡ z → ((b ≡ true) × (x ≡ z)) ⊎ ((b ≡ false) × (y ≡ z))
 chosen true x y z e = inl (refl, e)
 chosen false x y z e = inr (refl, e)
 
--- ---- a number in so many bytes, and that many bytes
+-- ---- a head, and as many bytes as it tells
 
-abbrev pub number_of : Width → List ℕ → ℕ
-number_of w x = from_be_bytes w (take (byte_len w) x)
+pub record IsHeaded (v : Head) (max : ℕ) (x p more : List ℕ) : Type 0 where
+  pub h : ℕ
+  pub n : ℕ
+  pub told : v ≡ Told h n
+  pub within : n ≤ max
+  pub whole : h + n ≤ length x
+  pub payload : take n (drop h x) ≡ p
+  pub rest : drop (h + n) x ≡ more
 
-pub record IsCounted (w : Width) (max : ℕ) (x p more : List ℕ) : Type 0 where
-  pub long : byte_len w ≤ length x
-  pub within : number_of w x ≤ max
-  pub whole : byte_len w + number_of w x ≤ length x
-  pub payload : take (number_of w x) (drop (byte_len w) x) ≡ p
-  pub rest : drop (byte_len w + number_of w x) x ≡ more
-
-pub counted_is : (w : Width) (max : ℕ) (x p more : List ℕ) → counted_front w max x ≡ Whole p more → IsCounted w max x p more
-counted_is w max x p more e =
-    elim (chosen (nat_lt (length x) (byte_len w)) _ _ _ e) [
-      | inl a ↦ absurd cc
-      | inr a ↦ elim (chosen (nat_lt max (number_of w x)) _ _ _ a.1) [
-        | inl b ↦ absurd cc
-        | inr b ↦ elim (chosen (nat_lt (length x) (byte_len w + number_of w x)) _ _ _ b.1) [
-          | inl c ↦ absurd cc
-          | inr c ↦ record { long = ltb-false _ _ a.0; within = ltb-false _ _ b.0; whole = ltb-false _ _ c.0; payload = cc; rest = cc }
-        ]
+pub headed_is : (v : Head) (max : ℕ) (x p more : List ℕ) → headed_front v max x ≡ Whole p more → IsHeaded v max x p more
+headed_is Short max x p more e = absurd cc
+headed_is (Broken k) max x p more e = absurd cc
+headed_is (Told h n) max x p more e =
+    elim (chosen (nat_lt max n) _ _ _ e) [
+      | inl b ↦ absurd cc
+      | inr b ↦ elim (chosen (nat_lt (length x) (h + n)) _ _ _ b.1) [
+        | inl c ↦ absurd cc
+        | inr c ↦ record { h = h; n = n; told = refl; within = ltb-false _ _ b.0; whole = ltb-false _ _ c.0; payload = cc; rest = cc }
       ]
     ]
 
-pub counted_from : (w : Width) (max : ℕ) (x p more : List ℕ) → IsCounted w max x p more → counted_front w max x ≡ Whole p more
-counted_from w max x p more c =
-    rw (le-ltb (length x) (byte_len w) c.long, le-ltb max (number_of w x) c.within, le-ltb (length x) (byte_len w + number_of w x) c.whole, c.payload, c.rest) refl
+pub headed_from : (v : Head) (h n max : ℕ) (x p more : List ℕ) → v ≡ Told h n → n ≤ max → h + n ≤ length x → take n (drop h x) ≡ p → drop (h + n) x ≡ more → headed_front v max x ≡ Whole p more
+headed_from v h n max x p more told within whole payload rest = rw told (rw (le-ltb max n within, le-ltb (length x) (h + n) whole, payload, rest) refl)
 
-pub counted_refused : (w : Width) (max : ℕ) (x : List ℕ) (kind : BadKind) → counted_front w max x ≡ Refused kind → (byte_len w ≤ length x) × (max < number_of w x) × (kind ≡ TooBig (number_of w x))
-counted_refused w max x kind e =
-    elim (chosen (nat_lt (length x) (byte_len w)) _ _ _ e) [
-      | inl a ↦ absurd cc
-      | inr a ↦ elim (chosen (nat_lt max (number_of w x)) _ _ _ a.1) [
-        | inl b ↦ (ltb-false _ _ a.0, ltb-true _ _ b.0, cc)
-        | inr b ↦ elim (chosen (nat_lt (length x) (byte_len w + number_of w x)) _ _ _ b.1) [
-          | inl c ↦ absurd cc
-          | inr c ↦ absurd cc
-        ]
+-- Why an input with such a head is refused.
+abbrev pub HeadRefuses : Head → ℕ → BadKind → Type 0
+HeadRefuses Short max kind = ⊥
+HeadRefuses (Broken k) max kind = kind ≡ BadHead k
+HeadRefuses (Told h n) max kind = (max < n) × (kind ≡ TooBig n)
+
+pub headed_refused : (v : Head) (max : ℕ) (x : List ℕ) (kind : BadKind) → headed_front v max x ≡ Refused kind → HeadRefuses v max kind
+headed_refused Short max x kind e = absurd cc
+headed_refused (Broken k) max x kind e = cc
+headed_refused (Told h n) max x kind e =
+    elim (chosen (nat_lt max n) _ _ _ e) [
+      | inl b ↦ (ltb-true _ _ b.0, cc)
+      | inr b ↦ elim (chosen (nat_lt (length x) (h + n)) _ _ _ b.1) [
+        | inl c ↦ absurd cc
+        | inr c ↦ absurd cc
       ]
     ]
 
-number_more : (w : Width) (x z : List ℕ) → byte_len w ≤ length x → number_of w (x ++ z) ≡ number_of w x
-number_more w x z long = ap (λ (bytes : List ℕ). from_be_bytes w bytes) (take-append-le (byte_len w) x z long)
+pub headed_refuses : (v : Head) (max : ℕ) (x : List ℕ) (kind : BadKind) → HeadRefuses v max kind → headed_front v max x ≡ Refused kind
+headed_refuses Short max x kind r = elim r [ ]
+headed_refuses (Broken k) max x kind r = ap Refused (sym r)
+headed_refuses (Told h n) max x kind r = rw (lt-ltb max n r.0) (ap Refused (sym r.1))
 
-counted_more : (w : Width) (max : ℕ) (x z p more : List ℕ) → counted_front w max x ≡ Whole p more → counted_front w max (x ++ z) ≡ Whole p (more ++ z)
-counted_more w max x z p more e =
-    let c = counted_is w max x p more e in
-    let same = number_more w x z c.long in
-    counted_from w max (x ++ z) p (more ++ z) (record {
-      long = omega (arith, length-append x z, c.long);
-      within = rw same c.within;
-      whole = rw same (omega (arith, length-append x z, c.whole));
-      payload = rw (same, drop-append-le (byte_len w) x z c.long, take-append-le (number_of w x) (drop (byte_len w) x) z (omega (arith, length-drop (byte_len w) x, c.whole))) c.payload;
-      rest = rw (same, drop-append-le (byte_len w + number_of w x) x z c.whole, c.rest) refl;
-    })
+still_refuses : (v w : Head) (max : ℕ) (kind : BadKind) → ((h n : ℕ) → v ≡ Told h n → w ≡ Told h n) → ((k : ℕ) → v ≡ Broken k → w ≡ Broken k) → HeadRefuses v max kind → HeadRefuses w max kind
+still_refuses Short w max kind told broken r = elim r [ ]
+still_refuses (Broken k) w max kind told broken r = rw (broken k refl) r
+still_refuses (Told h n) w max kind told broken r = rw (told h n refl) r
 
-counted_refused_more : (w : Width) (max : ℕ) (x z : List ℕ) (kind : BadKind) → counted_front w max x ≡ Refused kind → counted_front w max (x ++ z) ≡ Refused kind
-counted_refused_more w max x z kind e =
-    let c = counted_refused w max x kind e in
-    rw (le-ltb (length (x ++ z)) (byte_len w) (omega (arith, length-append x z, c.0)), number_more w x z c.0, lt-ltb max (number_of w x) c.1, c.2) refl
+module _ (heads : Heads) (laws : AreLawful heads) where
+  headed_more : (max : ℕ) (x z p more : List ℕ) → headed_front (heads.tells x) max x ≡ Whole p more → headed_front (heads.tells (x ++ z)) max (x ++ z) ≡ Whole p (more ++ z)
+  headed_more max x z p more e =
+      let c = headed_is (heads.tells x) max x p more e in
+      let long = laws.within x c.h c.n c.told in
+      headed_from (heads.tells (x ++ z)) c.h c.n max (x ++ z) p (more ++ z) (laws.more x z c.h c.n c.told) c.within (omega (arith, length-append x z, c.whole))
+      (rw (drop-append-le c.h x z long, take-append-le c.n (drop c.h x) z (omega (arith, length-drop c.h x, c.whole))) c.payload)
+      (rw (drop-append-le (c.h + c.n) x z c.whole, c.rest) refl)
+
+  headed_refused_more : (max : ℕ) (x z : List ℕ) (kind : BadKind) → headed_front (heads.tells x) max x ≡ Refused kind → headed_front (heads.tells (x ++ z)) max (x ++ z) ≡ Refused kind
+  headed_refused_more max x z kind e =
+      headed_refuses (heads.tells (x ++ z)) max (x ++ z) kind (still_refuses (heads.tells x) (heads.tells (x ++ z)) max kind (λ h n. laws.more x z h n) (λ k. laws.broken x z k) (headed_refused (heads.tells x) max x kind e))
+
+  headed_shorter : (max : ℕ) (x p more : List ℕ) → headed_front (heads.tells x) max x ≡ Whole p more → length more < length x
+  headed_shorter max x p more e =
+      let c = headed_is (heads.tells x) max x p more e in
+      let some = laws.some x c.h c.n c.told in
+      rw (← c.rest) (omega (arith, length-drop (c.h + c.n) x, c.whole, some))
 
 -- ---- the bytes up to a line feed
 
@@ -164,31 +177,37 @@ line_refused_more max x z kind e =
       l.2,
     ) refl
 
--- ---- each framing
-
-pub front_more : (f : Framing) (max : ℕ) (x z p more : List ℕ) → front f max x ≡ Whole p more → front f max (x ++ z) ≡ Whole p (more ++ z)
-front_more Len4 max x z p more e = counted_more w32 max x z p more e
-front_more Len2 max x z p more e = counted_more w16 max x z p more e
-front_more Line max x z p more e = line_more max x z p more e
-
-pub front_refused_more : (f : Framing) (max : ℕ) (x z : List ℕ) (kind : BadKind) → front f max x ≡ Refused kind → front f max (x ++ z) ≡ Refused kind
-front_refused_more Len4 max x z kind e = counted_refused_more w32 max x z kind e
-front_refused_more Len2 max x z kind e = counted_refused_more w16 max x z kind e
-front_refused_more Line max x z kind e = line_refused_more max x z kind e
-
-counted_shorter : (w : Width) (max : ℕ) (x p more : List ℕ) → 0 < byte_len w → counted_front w max x ≡ Whole p more → length more < length x
-counted_shorter w max x p more some e =
-    let c = counted_is w max x p more e in
-    rw (← c.rest) (omega (arith, length-drop (byte_len w + number_of w x) x, c.whole, some))
-
-pub front_shorter : (f : Framing) (max : ℕ) (x p more : List ℕ) → front f max x ≡ Whole p more → length more < length x
-front_shorter Len4 max x p more e = counted_shorter w32 max x p more (lit< tt) e
-front_shorter Len2 max x p more e = counted_shorter w16 max x p more (lit< tt) e
-front_shorter Line max x p more e =
+line_shorter : (max : ℕ) (x p more : List ℕ) → line_front max x ≡ Whole p more → length more < length x
+line_shorter max x p more e =
     let l = line_is max x p more e in
     rw (← l.rest) (omega (arith, length-drop (line_len x + 1) x, l.ends))
 
+-- ---- each layout, and so each framing
+
+more_in : (l : Layout) → IsLawful l → (max : ℕ) (x z p more : List ℕ) → front_in l max x ≡ Whole p more → front_in l max (x ++ z) ≡ Whole p (more ++ z)
+more_in (Counted heads) laws = headed_more heads laws
+more_in Lines laws = line_more
+
+refused_more_in : (l : Layout) → IsLawful l → (max : ℕ) (x z : List ℕ) (kind : BadKind) → front_in l max x ≡ Refused kind → front_in l max (x ++ z) ≡ Refused kind
+refused_more_in (Counted heads) laws = headed_refused_more heads laws
+refused_more_in Lines laws = line_refused_more
+
+shorter_in : (l : Layout) → IsLawful l → (max : ℕ) (x p more : List ℕ) → front_in l max x ≡ Whole p more → length more < length x
+shorter_in (Counted heads) laws = headed_shorter heads laws
+shorter_in Lines laws = line_shorter
+
+empty_in : (l : Layout) → IsLawful l → (max : ℕ) → front_in l max [] ≡ Partial
+empty_in (Counted heads) laws max = ap (λ v. headed_front v max []) laws.empty
+empty_in Lines laws max = rw (le-ltb max 0 (omega arith)) refl
+
+pub front_more : (f : Framing) (max : ℕ) (x z p more : List ℕ) → front f max x ≡ Whole p more → front f max (x ++ z) ≡ Whole p (more ++ z)
+front_more f = more_in (layout f) (lawful f)
+
+pub front_refused_more : (f : Framing) (max : ℕ) (x z : List ℕ) (kind : BadKind) → front f max x ≡ Refused kind → front f max (x ++ z) ≡ Refused kind
+front_refused_more f = refused_more_in (layout f) (lawful f)
+
+pub front_shorter : (f : Framing) (max : ℕ) (x p more : List ℕ) → front f max x ≡ Whole p more → length more < length x
+front_shorter f = shorter_in (layout f) (lawful f)
+
 pub front_empty : (f : Framing) (max : ℕ) → front f max [] ≡ Partial
-front_empty Len4 max = refl
-front_empty Len2 max = refl
-front_empty Line max = rw (le-ltb max 0 (omega arith)) refl
+front_empty f = empty_in (layout f) (lawful f)

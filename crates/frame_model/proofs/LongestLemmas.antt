@@ -1,103 +1,67 @@
 -- The frames that a cut finds are those that the payloads spell, and there are no more.
-use Rattle.std.proofs.Common.{◌≡◌, ◌≢◌, ◌<◌, ◌≤◌, ◌+◌, ◌^◌, ◌-◌, ℕ, zero, suc, cond, nat_lt, List, [], ◌∷◌, ◌++◌, length, take, drop, get_or, refl, sym, ap, subst, ◌∙◌, arith, inl, inr, append_assoc, Some, None}
+use Rattle.std.proofs.Common.{◌≡◌, ◌≢◌, ◌<◌, ◌≤◌, ◌+◌, ◌-◌, ℕ, zero, suc, cond, nat_lt, List, [], ◌∷◌, ◌++◌, length, take, drop, get_or, refl, sym, ap, subst, ◌∙◌, arith, inl, inr, append_assoc, Some, None}
 use Rattle.std.specs.Prelude.{IsNone, position}
 use Rattle.std.specs.List.{position_or_len}
 use mathlib.Core.List.{IsPrefix}
-use Rattle.std.specs.Int.{Width, w16, w32, byte_len, from_be_bytes, to_be_bytes}
 use Rattle.std.proofs.lemmas.Bool.{eqb-true, cases_lt, lt-ltb, le-ltb}
-use Rattle.std.proofs.lemmas.List.{append-nil, length-append, length-take, length-drop, take-append-drop, take_at, drop_at, drop-drop, get_or-take, get_or-drop, get_or_past, get_or_append_left, get_or_at}
+use Rattle.std.proofs.lemmas.List.{append-nil, length-append, length-take, length-drop, take-append-drop, take_at, drop_at, drop-drop, get_or-take, get_or-drop, get_or_append_left, get_or_at}
 use Rattle.std.proofs.lemmas.List.Sums.{split_at_first, passes_at_first, fails_before_first, position_or_len_is}
-use Rattle.std.proofs.lemmas.Nat.{be_bytes_2, be_bytes_4, from_be_bytes-to_be_bytes_2, from_be_bytes-to_be_bytes_4}
 use Rattle.frame_model.specs.declared.framing.Framing.{Framing}
-use Rattle.frame_model.specs.declared.framing.Framing.TheVariants.{Len4, Len2, Line}
-use Rattle.frame_model.specs.Spelling.{is_line_feed, obstacle, spelling, text}
-use Rattle.frame_model.specs.Cut.{Whole, Refused, Partial, front, counted_front, line_front, frames, BeginsWith, IsBytes}
-use Rattle.frame_model.proofs.FrontLemmas.{counted_is, counted_from, line_is, line_from, front_shorter, front_empty, line_len_le}
+use Rattle.frame_model.specs.Heads.{Heads, Layout, Counted, Lines, layout}
+use Rattle.frame_model.specs.Spelling.{is_line_feed, obstacle, obstacle_in, spelling, spelling_in, text}
+use Rattle.frame_model.specs.Cut.{Whole, Refused, Partial, front, front_in, headed_front, line_front, frames, BeginsWith, IsBytes}
+use Rattle.frame_model.proofs.HeadLemmas.{AreLawful, IsLawful, lawful}
+use Rattle.frame_model.proofs.FrontLemmas.{headed_is, headed_from, line_is, line_from, front_shorter, front_empty, line_len_le}
 use Rattle.frame_model.proofs.FramesLemmas.{frames_whole, frames_refused, frames_partial}
 
 bytes_drop : (n : ℕ) (x : List ℕ) → IsBytes x → IsBytes (drop n x)
 bytes_drop n x h i = rw get_or-drop (h (n + i))
 
-bytes_take : (n : ℕ) (x : List ℕ) → IsBytes x → IsBytes (take n x)
-bytes_take n x h i =
-    elim (cases_lt i n) [
-      | inl lt ↦ rw (get_or-take n x i 0 lt) (h i)
-      | inr le ↦ rw (get_or_past (take n x) i 0 (omega (arith, length-take n x))) (omega arith)
-    ]
-
 -- a payload that is found is in its frame's limits and spelt at the front
-pub record IsFrame (f : Framing) (max : ℕ) (x p more : List ℕ) : Type 0 where
+pub record IsFrame (l : Layout) (max : ℕ) (x p more : List ℕ) : Type 0 where
   pub within : length p ≤ max
-  pub possible : IsNone (obstacle f p)
-  pub parts : x ≡ spelling f p ++ more
+  pub possible : IsNone (obstacle_in l p)
+  pub parts : x ≡ spelling_in l p ++ more
   pub bytes : IsBytes more
 
--- ---- a number in so many bytes, and that many bytes
+-- ---- a head, and as many bytes as it tells
 
-pub record IsHead (w : Width) (limit : ℕ) : Type 0 where
-  pub len : (n : ℕ) → length (to_be_bytes w n) ≡ byte_len w
-  pub back : (x : List ℕ) → length x ≡ byte_len w → IsBytes x → to_be_bytes w (from_be_bytes w x) ≡ x
-  pub again : (n : ℕ) → n < limit → from_be_bytes w (to_be_bytes w n) ≡ n
-  pub below : (x : List ℕ) → IsBytes x → from_be_bytes w x < limit
-
-head4 : IsHead w32 (2 ^ 32)
-head4 = record {
-  len = λ n. refl;
-  back = λ x len h. be_bytes_4 x _ len h refl;
-  again = λ n lt. from_be_bytes-to_be_bytes_4 n lt;
-  below = λ x h. omega (arith, h 0, h 1, h 2, h 3);
-}
-
-head2 : IsHead w16 (2 ^ 16)
-head2 = record {
-  len = λ n. refl;
-  back = λ x len h. be_bytes_2 x _ len h refl;
-  again = λ n lt. from_be_bytes-to_be_bytes_2 n lt;
-  below = λ x h. omega (arith, h 0, h 1);
-}
-
-pub record IsCountedFrame (w : Width) (limit max : ℕ) (x p more : List ℕ) : Type 0 where
+pub record IsHeadedFrame (heads : Heads) (max : ℕ) (x p more : List ℕ) : Type 0 where
   pub within : length p ≤ max
-  pub possible : length p < limit
-  pub parts : x ≡ (to_be_bytes w (length p) ++ p ++ []) ++ more
+  pub possible : length p < heads.limit
+  pub parts : x ≡ (heads.writes (length p) ++ p ++ []) ++ more
   pub bytes : IsBytes more
 
-counted_found : (w : Width) (limit : ℕ) → IsHead w limit → (max : ℕ) (x p more : List ℕ) → IsBytes x → counted_front w max x ≡ Whole p more → IsCountedFrame w limit max x p more
-counted_found w limit wide max x p more fits e =
-    let c = counted_is w max x p more e in
-    let k = byte_len w in
-    let head = take k x in
-    let n = from_be_bytes w head in
-    let rest = drop k x in
-    let head_fits = bytes_take k x fits in
-    let len : length (take n rest) ≡ n = omega (arith, length-take n rest, length-drop k x, c.whole) in
-    let p_len : length p ≡ n = rw (← c.payload) len in
-    let spelt : to_be_bytes w n ≡ head = wide.back head (omega (arith, length-take k x, c.long)) head_fits in
-    let more_is : drop n rest ≡ more = drop-drop n k x ∙ c.rest in
-    record {
-      within = rw p_len c.within;
-      possible = rw p_len (wide.below head head_fits);
-      parts = sym (rw (p_len, spelt, append-nil, append_assoc, ← c.payload, ← more_is, take-append-drop n rest) (take-append-drop k x));
-      bytes = rw (← more_is) (bytes_drop n rest (bytes_drop k x fits));
-    }
+parts_are : (h n : ℕ) (x head p more : List ℕ) → take h x ≡ head → take n (drop h x) ≡ p → drop n (drop h x) ≡ more → x ≡ (head ++ p ++ []) ++ more
+parts_are h n x head p more a b c = sym (rw (append-nil, append_assoc, ← a, ← b, ← c, take-append-drop n (drop h x)) (take-append-drop h x))
 
-counted_again : (w : Width) (limit : ℕ) → IsHead w limit → (max : ℕ) (p more : List ℕ) → length p < limit → length p ≤ max → counted_front w max ((to_be_bytes w (length p) ++ p ++ []) ++ more) ≡ Whole p more
-counted_again w limit wide max p more possible within =
-    let n = length p in
-    let head = to_be_bytes w n in
-    let len = wide.len n in
-    let regrouped : (head ++ p ++ []) ++ more ≡ head ++ (p ++ more) = rw (append-nil (head ++ p)) (append_assoc head p more) in
-    let front_is : take (byte_len w) (head ++ (p ++ more)) ≡ head = take_at head (p ++ more) (byte_len w) len in
-    let rest_is : drop (byte_len w) (head ++ (p ++ more)) ≡ p ++ more = drop_at head (p ++ more) (byte_len w) len in
-    let n_is : from_be_bytes w (take (byte_len w) (head ++ (p ++ more))) ≡ n = rw front_is (wide.again n possible) in
-    let size : length (head ++ (p ++ more)) ≡ byte_len w + (n + length more) = omega (arith, length-append head (p ++ more), length-append p more, len) in
-    rw regrouped (counted_from w max (head ++ (p ++ more)) p more (record {
-      long = omega arith;
-      within = rw n_is within;
-      whole = rw n_is (omega arith);
-      payload = rw (n_is, rest_is) (take_at p more n refl);
-      rest = rw (n_is, ← drop-drop n (byte_len w) (head ++ (p ++ more)), rest_is) (drop_at p more n refl);
-    }))
+module _ (heads : Heads) (laws : AreLawful heads) where
+  headed_found : (max : ℕ) (x p more : List ℕ) → IsBytes x → headed_front (heads.tells x) max x ≡ Whole p more → IsHeadedFrame heads max x p more
+  headed_found max x p more fits e =
+      let c = headed_is (heads.tells x) max x p more e in
+      let rest = drop c.h x in
+      let len : length (take c.n rest) ≡ c.n = omega (arith, length-take c.n rest, length-drop c.h x, c.whole) in
+      let p_len : length p ≡ c.n = sym (ap length c.payload) ∙ len in
+      let spelt : heads.writes c.n ≡ take c.h x = sym (laws.spelt x c.h c.n fits c.told) in
+      let more_is : drop c.n rest ≡ more = drop-drop c.n c.h x ∙ c.rest in
+      let below = laws.below x c.h c.n fits c.told in
+      record {
+        within = rw p_len c.within;
+        possible = rw p_len below;
+        parts = parts_are c.h c.n x (heads.writes (length p)) p more (sym spelt ∙ ap heads.writes (sym p_len)) c.payload more_is;
+        bytes = subst IsBytes more_is (bytes_drop c.n rest (bytes_drop c.h x fits));
+      }
+
+  headed_again : (max : ℕ) (p more : List ℕ) → length p < heads.limit → length p ≤ max → headed_front (heads.tells ((heads.writes (length p) ++ p ++ []) ++ more)) max ((heads.writes (length p) ++ p ++ []) ++ more) ≡ Whole p more
+  headed_again max p more possible within =
+      let n = length p in
+      let head = heads.writes n in
+      let regrouped : (head ++ p ++ []) ++ more ≡ head ++ (p ++ more) = rw (append-nil (head ++ p)) (append_assoc head p more) in
+      let rest_is : drop (length head) (head ++ (p ++ more)) ≡ p ++ more = drop_at head (p ++ more) (length head) refl in
+      let size : length (head ++ (p ++ more)) ≡ length head + (n + length more) = omega (arith, length-append head (p ++ more), length-append p more) in
+      rw regrouped (headed_from (heads.tells (head ++ (p ++ more))) (length head) n max (head ++ (p ++ more)) p more (laws.again n (p ++ more) possible) within (omega (arith, size))
+      (rw rest_is (take_at p more n refl))
+      (rw (← drop-drop n (length head) (head ++ (p ++ more)), rest_is) (drop_at p more n refl)))
 
 -- ---- the bytes up to a line feed
 
@@ -108,7 +72,7 @@ no_line_feed_len p none =
       | inr ge ↦ omega (arith, line_len_le p)
     ]
 
-line_found : (max : ℕ) (x p more : List ℕ) → IsBytes x → line_front max x ≡ Whole p more → IsFrame Line max x p more
+line_found : (max : ℕ) (x p more : List ℕ) → IsBytes x → line_front max x ≡ Whole p more → IsFrame Lines max x p more
 line_found max x p more fits e =
     let l = line_is max x p more e in
     let n = position_or_len is_line_feed x in
@@ -141,16 +105,16 @@ line_again max p more none within =
       rest = rw len cut_off;
     }))
 
--- ---- each framing
+-- ---- each layout, and so each framing
 
-pub front_found : (f : Framing) (max : ℕ) (x p more : List ℕ) → IsBytes x → front f max x ≡ Whole p more → IsFrame f max x p more
-front_found Len4 max x p more fits e =
-    let c = counted_found w32 (2 ^ 32) head4 max x p more fits e in
-    record { within = c.within; possible = rw (lt-ltb (length p) (2 ^ 32) c.possible) refl; parts = c.parts; bytes = c.bytes }
-front_found Len2 max x p more fits e =
-    let c = counted_found w16 (2 ^ 16) head2 max x p more fits e in
-    record { within = c.within; possible = rw (lt-ltb (length p) (2 ^ 16) c.possible) refl; parts = c.parts; bytes = c.bytes }
-front_found Line max x p more fits e = line_found max x p more fits e
+found_in : (l : Layout) → IsLawful l → (max : ℕ) (x p more : List ℕ) → IsBytes x → front_in l max x ≡ Whole p more → IsFrame l max x p more
+found_in (Counted heads) laws max x p more fits e =
+    let c = headed_found heads laws max x p more fits e in
+    record { within = c.within; possible = rw (lt-ltb (length p) heads.limit c.possible) refl; parts = c.parts; bytes = c.bytes }
+found_in Lines laws max x p more fits e = line_found max x p more fits e
+
+pub front_found : (f : Framing) (max : ℕ) (x p more : List ℕ) → IsBytes x → front f max x ≡ Whole p more → IsFrame (layout f) max x p more
+front_found f = found_in (layout f) (lawful f)
 
 pub below_limit : (n limit at : ℕ) → IsNone (cond (nat_lt n limit) None (Some at)) → n < limit
 below_limit n limit at none =
@@ -159,10 +123,12 @@ below_limit n limit at none =
       | inr ge ↦ let some = rw (le-ltb n limit ge) at none in absurd cc
     ]
 
+again_in : (l : Layout) → IsLawful l → (max : ℕ) (p more : List ℕ) → length p ≤ max → IsNone (obstacle_in l p) → front_in l max (spelling_in l p ++ more) ≡ Whole p more
+again_in (Counted heads) laws max p more within possible = headed_again heads laws max p more (below_limit (length p) heads.limit (heads.limit - 1) possible) within
+again_in Lines laws max p more within possible = line_again max p more possible within
+
 pub front_again : (f : Framing) (max : ℕ) (p more : List ℕ) → length p ≤ max → IsNone (obstacle f p) → front f max (spelling f p ++ more) ≡ Whole p more
-front_again Len4 max p more within possible = counted_again w32 (2 ^ 32) head4 max p more (below_limit (length p) (2 ^ 32) (2 ^ 32 - 1) possible) within
-front_again Len2 max p more within possible = counted_again w16 (2 ^ 16) head2 max p more (below_limit (length p) (2 ^ 16) (2 ^ 16 - 1) possible) within
-front_again Line max p more within possible = line_again max p more possible within
+front_again f = again_in (layout f) (lawful f)
 
 -- ---- the whole list
 

@@ -2,10 +2,10 @@
 use Rattle.std.proofs.Common.{◌≡◌, ℕ, Bool, false, List, [], ◌∷◌, ◌++◌, refl, ap, ◌∙◌, append_assoc, Some, None}
 use mathlib.Core.List.{IsPrefix}
 use Rattle.frame_model.specs.declared.framing.Framing.{Framing}
-use Rattle.frame_model.specs.declared.framing.Framing.TheVariants.{Len4, Len2, Line}
+use Rattle.frame_model.specs.Heads.{Layout, Counted, Lines, layout}
 use Rattle.frame_model.specs.declared.framing.BadKind.{BadKind}
 use Rattle.frame_model.specs.Spelling.{obstacle, spelling, text}
-use Rattle.frame_model.specs.Cut.{Front, Whole, Refused, Partial, front, frames, Verdict, Bad, last_line, verdict_on, cut}
+use Rattle.frame_model.specs.Cut.{Front, Whole, Refused, Partial, front, frames, Verdict, Bad, last_line, last_line_in, verdict_in, verdict_on, cut}
 use Rattle.frame_model.specs.Translation.{spellable, from_unspellable, translation_of, translation_between}
 use Rattle.frame_model.proofs.FrontLemmas.{front_refused_more}
 use Rattle.frame_model.proofs.FramesLemmas.{continues, frames_refused}
@@ -15,26 +15,31 @@ append_nil [] = refl
 append_nil (x ∷ xs) = ap (λ ys. x ∷ ys) (append_nil xs)
 
 -- while the input is open there is no last line
-no_last : (f : Framing) (v : Front) (rest : List ℕ) → last_line f v false rest ≡ []
-no_last Len4 v rest = refl
-no_last Len2 v rest = refl
-no_last Line (Whole p more) rest = refl
-no_last Line (Refused kind) rest = refl
-no_last Line Partial rest = refl
+no_last_in : (l : Layout) (v : Front) (rest : List ℕ) → last_line_in l v false rest ≡ []
+no_last_in (Counted heads) v rest = refl
+no_last_in Lines (Whole p more) rest = refl
+no_last_in Lines (Refused kind) rest = refl
+no_last_in Lines Partial rest = refl
+
+pub no_last : (f : Framing) (v : Front) (rest : List ℕ) → last_line f v false rest ≡ []
+no_last f = no_last_in (layout f)
+
+no_last_refused_in : (l : Layout) (kind : BadKind) (at_end : Bool) (rest : List ℕ) → last_line_in l (Refused kind) at_end rest ≡ []
+no_last_refused_in (Counted heads) kind at_end rest = refl
+no_last_refused_in Lines kind at_end rest = refl
 
 pub no_last_refused : (f : Framing) (kind : BadKind) (at_end : Bool) (rest : List ℕ) → last_line f (Refused kind) at_end rest ≡ []
-no_last_refused Len4 kind at_end rest = refl
-no_last_refused Len2 kind at_end rest = refl
-no_last_refused Line kind at_end rest = refl
+no_last_refused f = no_last_refused_in (layout f)
+
+bad_is_refused_in : (l : Layout) (v : Front) (at : ℕ) (rest : List ℕ) (place : ℕ) (kind : BadKind) → verdict_in l v false at rest ≡ Bad place kind → v ≡ Refused kind
+bad_is_refused_in l (Refused k) at rest place kind e = cc
+bad_is_refused_in (Counted heads) (Whole p more) at rest place kind e = absurd cc
+bad_is_refused_in Lines (Whole p more) at rest place kind e = absurd cc
+bad_is_refused_in (Counted heads) Partial at rest place kind e = absurd cc
+bad_is_refused_in Lines Partial at rest place kind e = absurd cc
 
 bad_is_refused : (f : Framing) (v : Front) (at : ℕ) (rest : List ℕ) (place : ℕ) (kind : BadKind) → verdict_on f v false at rest ≡ Bad place kind → v ≡ Refused kind
-bad_is_refused f (Refused k) at rest place kind e = cc
-bad_is_refused Len4 (Whole p more) at rest place kind e = absurd cc
-bad_is_refused Len2 (Whole p more) at rest place kind e = absurd cc
-bad_is_refused Line (Whole p more) at rest place kind e = absurd cc
-bad_is_refused Len4 Partial at rest place kind e = absurd cc
-bad_is_refused Len2 Partial at rest place kind e = absurd cc
-bad_is_refused Line Partial at rest place kind e = absurd cc
+bad_is_refused f = bad_is_refused_in (layout f)
 
 -- ---- the payloads before the first that cannot be spelt
 

@@ -1,11 +1,13 @@
 -- How an input is cut into frames.
-use Rattle.std.specs.Prelude.{ℕ, zero, suc, ◌≡◌, ◌≢◌, ◌+◌, ◌≤◌, ◌<◌, nat_lt, nat_le, ◌&&◌, Bool, true, false, List, [], ◌∷◌, ◌++◌, length, take, drop, slice_index, IsNone, if◌then◌else◌}
+use Rattle.std.specs.Prelude.{ℕ, zero, suc, ◌≡◌, ◌≢◌, ◌+◌, ◌≤◌, ◌<◌, ◌⊎◌, nat_lt, nat_le, ◌&&◌, Bool, true, false, List, [], ◌∷◌, ◌++◌, length, take, drop, slice_index, IsNone, if◌then◌else◌}
 use Rattle.std.specs.List.{position_or_len, AllByRecursion}
-use Rattle.std.specs.Int.{Width, w16, w32, byte_len, from_be_bytes}
+use Rattle.std.specs.Int.{Width, byte_len, from_be_bytes}
 use Rattle.frame_model.specs.declared.framing.Framing.{Framing}
-use Rattle.frame_model.specs.declared.framing.Framing.TheVariants.{Len4, Len2, Line}
 use Rattle.frame_model.specs.declared.framing.BadKind.{BadKind}
-use Rattle.frame_model.specs.declared.framing.BadKind.TheVariants.{TooBig}
+use Rattle.frame_model.specs.declared.framing.BadKind.TheVariants.{TooBig, BadHead}
+use Rattle.frame_model.specs.declared.head.Head.{Head}
+use Rattle.frame_model.specs.declared.head.Head.TheVariants.{Short, Broken, Told}
+use Rattle.frame_model.specs.Heads.{Heads, Layout, Counted, Lines, layout}
 use Rattle.frame_model.specs.Spelling.{is_line_feed, obstacle, text}
 
 -- What stands at the front of an input: a whole frame, with its payload and what follows it,
@@ -15,14 +17,14 @@ pub data Front : Type 0 where
   Refused : BadKind → Front
   Partial : Front
 
--- A number of this width, and that many bytes.
-abbrev pub counted_front : Width → ℕ → List ℕ → Front
-counted_front w max x =
-    let n = from_be_bytes w (take (byte_len w) x) in
-    if nat_lt (length x) (byte_len w) then Partial
-    else if nat_lt max n then Refused (TooBig n)
-    else if nat_lt (length x) (byte_len w + n) then Partial
-    else Whole (take n (drop (byte_len w) x)) (drop (byte_len w + n) x)
+-- A head, and as many bytes as it tells.
+abbrev pub headed_front : Head → ℕ → List ℕ → Front
+headed_front Short max x = Partial
+headed_front (Broken k) max x = Refused (BadHead k)
+headed_front (Told h n) max x =
+    if nat_lt max n then Refused (TooBig n)
+    else if nat_lt (length x) (h + n) then Partial
+    else Whole (take n (drop h x)) (drop (h + n) x)
 
 -- The bytes up to a line feed.
 abbrev pub line_front : ℕ → List ℕ → Front
@@ -33,10 +35,12 @@ line_front max x =
     else Partial
 
 -- What stands at the front, by the framing.
+abbrev pub front_in : Layout → ℕ → List ℕ → Front
+front_in (Counted heads) max x = headed_front (heads.tells x) max x
+front_in Lines max x = line_front max x
+
 abbrev pub front : Framing → ℕ → List ℕ → Front
-front Len4 max x = counted_front w32 max x
-front Len2 max x = counted_front w16 max x
-front Line max x = line_front max x
+front f max x = front_in (layout f) max x
 
 -- The payloads of the whole frames, and the rest behind them. Each frame has a byte, so there are at most `length x`.
 abbrev pub frames_within : ℕ → Framing → ℕ → List ℕ → List (List ℕ) × List ℕ
@@ -65,17 +69,23 @@ pub record Cutting : Type 0 where
   pub verdict : Verdict
 
 -- At the end of the input, a line need not be ended: the rest is a payload then.
+abbrev pub last_line_in : Layout → Front → Bool → List ℕ → List (List ℕ)
+last_line_in Lines Partial true (b ∷ rest) = (b ∷ rest) ∷ []
+last_line_in l before at_end rest = []
+
 abbrev pub last_line : Framing → Front → Bool → List ℕ → List (List ℕ)
-last_line Line Partial true (b ∷ rest) = (b ∷ rest) ∷ []
-last_line f before at_end rest = []
+last_line f before at_end rest = last_line_in (layout f) before at_end rest
 
 -- The verdict, from what stands at the front of a rest that begins at a place.
+abbrev pub verdict_in : Layout → Front → Bool → ℕ → List ℕ → Verdict
+verdict_in l (Refused kind) at_end place rest = Bad place kind
+verdict_in l before false place rest = Open
+verdict_in l before true place [] = End
+verdict_in Lines before true place (b ∷ rest) = End
+verdict_in l before true place (b ∷ rest) = Rest place
+
 abbrev pub verdict_on : Framing → Front → Bool → ℕ → List ℕ → Verdict
-verdict_on f (Refused kind) at_end place rest = Bad place kind
-verdict_on f before false place rest = Open
-verdict_on f before true place [] = End
-verdict_on Line before true place (b ∷ rest) = End
-verdict_on f before true place (b ∷ rest) = Rest place
+verdict_on f before at_end place rest = verdict_in (layout f) before at_end place rest
 
 -- An input as a framing cuts it, with payloads of at most `max` bytes. `at_end` says that nothing more comes.
 abbrev pub cut : Framing → ℕ → List ℕ → Bool → Cutting
@@ -99,10 +109,18 @@ abbrev pub IsBytes : List ℕ → Type 0
 IsBytes x = (k : ℕ) → slice_index x k < 256
 
 -- An input begins with a whole head, which tells more than `max` bytes.
-pub record HasTooGreatHead (w : Width) (max : ℕ) (x : List ℕ) (kind : BadKind) : Type 0 where
-  pub whole : byte_len w ≤ length x
-  pub too_great : max < from_be_bytes w (take (byte_len w) x)
-  pub told : kind ≡ TooBig (from_be_bytes w (take (byte_len w) x))
+pub record HasTooGreatHead (heads : Heads) (max : ℕ) (x : List ℕ) (kind : BadKind) : Type 0 where
+  pub bytes : ℕ
+  pub number : ℕ
+  pub whole : heads.tells x ≡ Told bytes number
+  pub too_great : max < number
+  pub told : kind ≡ TooBig number
+
+-- An input begins with so many bytes that are no head.
+pub record HasBrokenHead (heads : Heads) (x : List ℕ) (kind : BadKind) : Type 0 where
+  pub bytes : ℕ
+  pub broken : heads.tells x ≡ Broken bytes
+  pub told : kind ≡ BadHead bytes
 
 -- An input begins with more than `max` bytes of a line, wherever the line ends.
 pub record HasTooLongLine (max : ℕ) (x : List ℕ) (kind : BadKind) : Type 0 where
@@ -111,10 +129,18 @@ pub record HasTooLongLine (max : ℕ) (x : List ℕ) (kind : BadKind) : Type 0 w
   pub told : kind ≡ TooBig (max + 1)
 
 -- No frame with a payload of at most `max` bytes stands at the front, however the input goes on.
+abbrev pub IsRefusedIn : Layout → ℕ → List ℕ → BadKind → Type 0
+IsRefusedIn (Counted heads) max x kind = HasTooGreatHead heads max x kind ⊎ HasBrokenHead heads x kind
+IsRefusedIn Lines max x kind = HasTooLongLine max x kind
+
 abbrev pub IsRefused : Framing → ℕ → List ℕ → BadKind → Type 0
-IsRefused Len4 max x kind = HasTooGreatHead w32 max x kind
-IsRefused Len2 max x kind = HasTooGreatHead w16 max x kind
-IsRefused Line max x kind = HasTooLongLine max x kind
+IsRefused f max x kind = IsRefusedIn (layout f) max x kind
+
+-- A head of h bytes that tells n, where heads are numbers of a width.
+pub record IsNumberHead (w : Width) (x : List ℕ) (h n : ℕ) : Type 0 where
+  pub whole : byte_len w ≤ length x
+  pub size : h ≡ byte_len w
+  pub number : n ≡ from_be_bytes w (take (byte_len w) x)
 
 -- ---- an input behind a frame
 

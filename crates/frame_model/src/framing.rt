@@ -18,4 +18,6 @@ pub enum BadKind {
     TooBig { len: u64 },
     /// The output's framing can't spell the payload, because of its byte at the index `at`.
     Unspellable { at: u64 },
+    /// So many bytes begin no head, where heads have a shortest spelling.
+    BadHead { bytes: u64 },
 }

@@ -1,14 +1,17 @@
 //! What frames are: how payloads are spelt, how an input is cut, and what it is translated to. The definitions stand in
-//! `specs/`; this crate's functions are their laws and their worked cases, and do nothing.
+//! `specs/`. `head_at_front` reads the heads of all framings that have some; the other functions are laws of the definitions
+//! and their worked cases, and do nothing.
 #![tactic(auto)]
 
 mod cases;
 mod framing;
+mod head;
 mod laws;
 
 pub use cases::{cut_cases, greatest_payload_cases, spelling_cases, translation_cases};
 pub use framing::{BadKind, Framing};
+pub use head::{Head, LONGEST_HEAD, head_at_front, heads_are_short};
 pub use laws::{
-    bad_stays_bad, cut_is_longest, open_until_the_end, refused_in_words, spelling_in_words,
-    text_only_grows,
+    bad_stays_bad, cut_is_longest, number_heads_in_words, open_until_the_end, refused_in_words,
+    spelling_in_words, text_only_grows,
 };

@@ -1,36 +1,34 @@
 -- A generated input doesn't end within a frame.
-use Rattle.std.proofs.Common.{◌≡◌, ◌≢◌, ◌+◌, ℕ, true, ◌&&◌, nat_lt, nat_le, List, [], ◌∷◌, ◌++◌, length, refl, sym, ◌∙◌, subst, arith, inl, inr}
+use Rattle.std.proofs.Common.{◌≡◌, ◌≢◌, ◌+◌, ℕ, true, ◌&&◌, nat_lt, nat_le, List, [], ◌∷◌, ◌++◌, length, drop, refl, sym, ap, ◌∙◌, subst, arith, inl, inr}
 use Rattle.std.specs.Prelude.{IsNone}
 use Rattle.std.specs.List.{AllByRecursion, position_or_len}
-use Rattle.std.specs.Int.{Width, w16, w32, byte_len}
-use Rattle.std.proofs.lemmas.Bool.{ltb-false, leb-false, le-ltb, and_cases}
+use Rattle.std.proofs.lemmas.Bool.{ltb-false, leb-false, and_cases}
 use Rattle.frame_model.specs.declared.framing.Framing.{Framing}
-use Rattle.frame_model.specs.declared.framing.Framing.TheVariants.{Len4, Len2, Line}
 use Rattle.frame_model.specs.declared.framing.BadKind.{BadKind}
 use Rattle.frame_grammar.specs.declared.job.Job.{Job}
+use Rattle.frame_model.specs.declared.head.Head.{Head}
+use Rattle.frame_model.specs.Heads.{Layout, Counted, Lines, layout}
 use Rattle.frame_model.specs.Spelling.{is_line_feed, obstacle, spelling, text}
-use Rattle.frame_model.specs.Cut.{Cutting, Verdict, Open, End, Rest, Bad, Whole, Refused, Partial, counted_front, cut, front, line_front, moved, verdict_on}
+use Rattle.frame_model.specs.Cut.{Cutting, Verdict, Open, End, Rest, Bad, Whole, Refused, Partial, cut, front, front_in, headed_front, line_front, moved}
 use Rattle.frame_model.specs.Translation.{from_unspellable, spellable, verdict_at}
 use Rattle.frame_grammar.specs.Job.{translation}
-use Rattle.frame_model.proofs.FrontLemmas.{IsCounted, IsLine, chosen, counted_is, front_empty, line_is, number_of}
+use Rattle.frame_model.proofs.FrontLemmas.{IsLine, chosen, headed_is, line_is}
+use Rattle.frame_model.proofs.FrameLemmas.{headed_partial}
+use Rattle.frame_model.proofs.HeadLemmas.{head_len, head_number}
 use Rattle.frame_model.proofs.LongestLemmas.{front_again}
-use Rattle.frame_model.proofs.CutLemmas.{cut_partial, cut_refused, cut_whole}
+use Rattle.frame_model.proofs.CutLemmas.{cut_refused, cut_whole, empty_ended}
 use Rattle.gen_core.specs.Generator.{input, payloads}
 use Rattle.gen_core.proofs.GenLemmas.{all_spellable}
 
 -- what is a whole frame with some greatest payload is no part of one with another
-counted_not_partial : (w : Width) (great max : ℕ) (x p more : List ℕ) → counted_front w great x ≡ Whole p more → counted_front w max x ≢ Partial
-counted_not_partial w great max x p more whole = λ e.
-    let c : IsCounted w great x p more = counted_is w great x p more whole in
-    elim (chosen (nat_lt (length x) (byte_len w)) _ _ _ e) [
-      | inl a ↦ let long = rw (le-ltb (length x) (byte_len w) c.long) at a.0 in absurd cc
-      | inr a ↦ elim (chosen (nat_lt max (number_of w x)) _ _ _ a.1) [
-        | inl b ↦ absurd cc
-        | inr b ↦ elim (chosen (nat_lt (length x) (byte_len w + number_of w x)) _ _ _ b.1) [
-          | inl d ↦ let all = rw (le-ltb (length x) (byte_len w + number_of w x) c.whole) at d.0 in absurd cc
-          | inr d ↦ absurd cc
-        ]
-      ]
+headed_not_partial : (v : Head) (great max : ℕ) (x p more : List ℕ) → headed_front v great x ≡ Whole p more → headed_front v max x ≢ Partial
+headed_not_partial v great max x p more whole = λ e.
+    let c = headed_is v great x p more whole in
+    elim (headed_partial v max x e) [
+      | inl short ↦ let none = c.told in absurd cc
+      | inr part ↦
+          let same = sym c.told ∙ part.told in
+          absurd (omega (arith, part.short, c.whole, ap head_len same, ap head_number same))
     ]
 
 line_not_partial : (great max : ℕ) (x p more : List ℕ) → line_front great x ≡ Whole p more → line_front max x ≢ Partial
@@ -48,16 +46,28 @@ line_not_partial great max x p more whole = λ e.
       ]
     ]
 
+not_partial_in : (l : Layout) (great max : ℕ) (x p more : List ℕ) → front_in l great x ≡ Whole p more → front_in l max x ≢ Partial
+not_partial_in (Counted heads) great max x p more whole = headed_not_partial (heads.tells x) great max x p more whole
+not_partial_in Lines great max x p more whole = line_not_partial great max x p more whole
+
 not_partial : (f : Framing) (great max : ℕ) (x p more : List ℕ) → front f great x ≡ Whole p more → front f max x ≢ Partial
-not_partial Len4 great max x p more whole = counted_not_partial w32 great max x p more whole
-not_partial Len2 great max x p more whole = counted_not_partial w16 great max x p more whole
-not_partial Line great max x p more whole = line_not_partial great max x p more whole
+not_partial f = not_partial_in (layout f)
 
 -- what stands behind it is the same with both
+headed_rest : (v : Head) (great max : ℕ) (x p more q behind : List ℕ) → headed_front v great x ≡ Whole p more → headed_front v max x ≡ Whole q behind → behind ≡ more
+headed_rest v great max x p more q behind whole e =
+    let c = headed_is v great x p more whole in
+    let d = headed_is v max x q behind e in
+    let same = sym d.told ∙ c.told in
+    let size : d.h + d.n ≡ c.h + c.n = omega (arith, ap head_len same, ap head_number same) in
+    sym d.rest ∙ ap (λ (k : ℕ). drop k x) size ∙ c.rest
+
+same_rest_in : (l : Layout) (great max : ℕ) (x p more q behind : List ℕ) → front_in l great x ≡ Whole p more → front_in l max x ≡ Whole q behind → behind ≡ more
+same_rest_in (Counted heads) great max x p more q behind whole e = headed_rest (heads.tells x) great max x p more q behind whole e
+same_rest_in Lines great max x p more q behind whole e = sym (line_is max x q behind e).rest ∙ (line_is great x p more whole).rest
+
 same_rest : (f : Framing) (great max : ℕ) (x p more q behind : List ℕ) → front f great x ≡ Whole p more → front f max x ≡ Whole q behind → behind ≡ more
-same_rest Len4 great max x p more q behind whole e = sym (counted_is w32 max x q behind e).rest ∙ (counted_is w32 great x p more whole).rest
-same_rest Len2 great max x p more q behind whole e = sym (counted_is w16 max x q behind e).rest ∙ (counted_is w16 great x p more whole).rest
-same_rest Line great max x p more q behind whole e = sym (line_is max x q behind e).rest ∙ (line_is great x p more whole).rest
+same_rest f = same_rest_in (layout f)
 
 moved_rest : (n place : ℕ) (v : Verdict) → ((at : ℕ) → v ≢ Rest at) → moved n v ≢ Rest place
 moved_rest n place Open none = λ e. cc
@@ -71,14 +81,9 @@ bad_no_rest at kind place e = cc
 end_no_rest : (place : ℕ) → End ≢ Rest place
 end_no_rest place e = cc
 
-ended : (f : Framing) (place : ℕ) → verdict_on f Partial true 0 [] ≢ Rest place
-ended Len4 place = end_no_rest place
-ended Len2 place = end_no_rest place
-ended Line place = end_no_rest place
-
 -- frames have no rest behind them
 cut_no_rest : (f : Framing) (max : ℕ) (ps : List (List ℕ)) → AllByRecursion (λ p. IsNone (obstacle f p)) ps → (place : ℕ) → (cut f max (text f ps) true).verdict ≢ Rest place
-cut_no_rest f max [] all place = subst (λ (c : Cutting). c.verdict ≢ Rest place) (sym (cut_partial f max [] true (front_empty f max))) (ended f place)
+cut_no_rest f max [] all place = subst (λ (c : Cutting). c.verdict ≢ Rest place) (sym (empty_ended f max)) (end_no_rest place)
 cut_no_rest f max (p ∷ ps) all place =
     let x = spelling f p ++ text f ps in
     let whole : front f (length p) x ≡ Whole p (text f ps) = front_again f (length p) p (text f ps) (omega arith) all.0 in

@@ -2,14 +2,17 @@
 use Rattle.std.proofs.Common.{◌≡◌, ◌≢◌, ◌<◌, ◌≤◌, ◌+◌, ◌-◌, ◌*◌, ◌%◌, ℕ, zero, suc, List, [], ◌∷◌, ◌++◌, map, length, take, drop, get_or, refl, sym, ap, ◌∙◌, arith, zero-add, add-zero}
 use Rattle.std.specs.Prelude.{IsNone, slice_index, slice_range}
 use Rattle.std.specs.List.{AllByRecursion, range_with_len}
+use Rattle.std.proofs.lemmas.Bool.{lt-ltb}
 use Rattle.std.proofs.lemmas.Nat.{mod_below}
 use Rattle.std.proofs.lemmas.List.{append-nil, append_assoc, drop-drop, drop-take, drop_at, get_or-map, length-append, length-map, length-take, take_at}
 use Rattle.std.proofs.lemmas.List.FromFn.{length-range_with_len}
 use Rattle.std.proofs.lemmas.Grind.{flat_map-append}
 use Rattle.frame_model.specs.declared.framing.Framing.{Framing}
-use Rattle.frame_model.specs.declared.framing.Framing.TheVariants.{Len4, Len2, Line}
-use Rattle.frame_model.specs.Spelling.{head_of, obstacle, spelling, tail_of, text}
-use Rattle.frame_model.proofs.FrameLemmas.{spelling_len}
+use Rattle.frame_model.specs.declared.framing.Framing.TheVariants.{Line}
+use Rattle.frame_model.specs.Heads.{Layout, Counted, Lines, layout}
+use Rattle.frame_model.specs.Spelling.{head_of, obstacle, obstacle_in, spelling, tail_of, text}
+use Rattle.frame_model.proofs.FrameLemmas.{around, spelling_len}
+use Rattle.frame_model.proofs.HeadLemmas.{IsLawful, lawful}
 use Rattle.frame_model.proofs.SpellingLemmas.{spelt}
 use Rattle.gen_core.specs.Generator.{payload, payload_len, payloads, run}
 
@@ -80,9 +83,7 @@ payload_is_short seed number = omega (arith, run_len (seed + number) (payload_le
 -- ---- the frames
 
 pub spelt_len : (f : Framing) (p : List ℕ) → length p ≤ 95 → length (spelling f p) ≤ 99
-spelt_len Len4 p short = omega (arith, spelling_len Len4 p, short)
-spelt_len Len2 p short = omega (arith, spelling_len Len2 p, short)
-spelt_len Line p short = omega (arith, spelling_len Line p, short)
+spelt_len f p short = let few = around f (length p) in omega (arith, spelling_len f p, few.1, short)
 
 pub all_short : (seed number count : ℕ) → AllByRecursion (λ p. length p ≤ 95) (payloads seed number count)
 all_short seed number zero = tt
@@ -108,10 +109,12 @@ above seed number k lt is =
     get_or-map (λ index. 32 + (t + index) % 95) (range_with_len 0 n) k 0 0 (omega (arith, at, length-range_with_len 0 n)) in
     omega (arith, is, one)
 
+has_frame_in : (l : Layout) → IsLawful l → (seed number : ℕ) → IsNone (obstacle_in l (payload seed number))
+has_frame_in (Counted heads) laws seed number = rw (lt-ltb (length (payload seed number)) heads.limit (omega (arith, payload_is_short seed number, laws.wide))) refl
+has_frame_in Lines laws seed number = (spelt Line (payload seed number) (spelling Line (payload seed number)) (above seed number, refl)).0
+
 pub has_frame : (f : Framing) (seed number : ℕ) → IsNone (obstacle f (payload seed number))
-has_frame Len4 seed number = (spelt Len4 (payload seed number) (spelling Len4 (payload seed number)) (omega (arith, payload_is_short seed number), sym (sym (append-nil _)))).0
-has_frame Len2 seed number = (spelt Len2 (payload seed number) (spelling Len2 (payload seed number)) (omega (arith, payload_is_short seed number), append-nil _)).0
-has_frame Line seed number = (spelt Line (payload seed number) (spelling Line (payload seed number)) (above seed number, refl)).0
+has_frame f = has_frame_in (layout f) (lawful f)
 
 pub all_spellable : (f : Framing) (seed number count : ℕ) → AllByRecursion (λ p. IsNone (obstacle f p)) (payloads seed number count)
 all_spellable f seed number zero = tt

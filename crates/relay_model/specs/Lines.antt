@@ -2,14 +2,15 @@
 use Rattle.std.specs.Prelude.{ℕ, ◌⊎◌, List, [], ◌∷◌, ◌++◌, codes, decimal}
 use Rattle.edge_core.specs.Device.{SinkState, Takes, TakesFront}
 use Rattle.frame_model.specs.declared.framing.BadKind.{BadKind}
-use Rattle.frame_model.specs.declared.framing.BadKind.TheVariants.{TooBig, Unspellable}
+use Rattle.frame_model.specs.declared.framing.BadKind.TheVariants.{TooBig, Unspellable, BadHead}
 use Rattle.relay_model.specs.declared.ending.Outcome.{Outcome}
 use Rattle.relay_model.specs.declared.ending.Outcome.TheVariants.{Clean, BadFrame, Truncated, ReadFault, WriteFault, TooLong}
 
--- How a bad frame is told: its payload's length, or the index of the byte that can't be spelt.
+-- How a bad frame is told: its payload's length, the index of the byte that can't be spelt, or how many bytes begin no head.
 abbrev pub kind_text : BadKind → List ℕ
 kind_text (TooBig len) = codes ": length " ++ decimal len ++ 10 ∷ []
 kind_text (Unspellable at) = codes ": byte " ++ decimal at ++ 10 ∷ []
+kind_text (BadHead bytes) = codes ": head " ++ decimal bytes ++ 10 ∷ []
 
 -- The line for a relay, from how it ended and the bytes that it took and wrote. A clean end has none.
 abbrev pub line_of : Outcome → ℕ → ℕ → List ℕ
