@@ -10,6 +10,10 @@ const MOST_CALLS: usize = 14;
 // A question may ask about two calls more than were made.
 const ROOM: usize = MOST_CALLS + 2;
 
+const WRITER_ENDS: Call = Call::EndWriter { code: 3 };
+
+const READER_ENDS: Call = Call::EndReader { code: 5 };
+
 // Calls in the order in which they are made.
 #[derive(Clone, Copy)]
 struct History {
@@ -38,7 +42,7 @@ fn total(h: &[Call]) -> u64 {
     for call in h {
         match *call {
             Call::Commit { bytes } => total = total.saturating_add(bytes),
-            Call::EndReader => return total,
+            Call::EndReader { .. } => return total,
             _ => {}
         }
     }
@@ -67,11 +71,11 @@ fn unexamined(h: &[Call]) -> u64 {
 }
 
 fn ended(h: &[Call]) -> Option<u32> {
-    h.contains(&Call::EndWriter).then_some(3)
+    h.contains(&WRITER_ENDS).then_some(3)
 }
 
 fn gone(h: &[Call]) -> Option<u32> {
-    h.contains(&Call::EndReader).then_some(5)
+    h.contains(&READER_ENDS).then_some(5)
 }
 
 fn is_read_canceled(h: &[Call]) -> bool {
@@ -108,7 +112,7 @@ fn last_read(h: &[Call]) -> Option<(u64, &[Call])> {
     for end in 0..h.len() {
         match h[end] {
             Call::Read { least } => last = Some((least, &h[..end])),
-            Call::Advance { .. } | Call::EndReader => last = None,
+            Call::Advance { .. } | Call::EndReader { .. } => last = None,
             _ => {}
         }
     }
@@ -181,7 +185,7 @@ impl Thresholds {
         for end in 0..h.len() {
             match h[end] {
                 Call::Commit { .. } => waits = !self.is_flush_ready(&h[..end + 1]),
-                Call::EndWriter => waits = false,
+                Call::EndWriter { .. } => waits = false,
                 _ => {}
             }
         }
@@ -250,13 +254,13 @@ impl Thresholds {
 
 fn is_lawful(h: &[Call], call: Call) -> bool {
     match call {
-        Call::Commit { .. } | Call::EndWriter => ended(h).is_none(),
+        Call::Commit { .. } | Call::EndWriter { .. } => ended(h).is_none(),
         Call::Read { .. } => gone(h).is_none() && lent(h).is_none(),
         Call::Advance { c, e } => match lent(h) {
             Some(len) => gone(h).is_none() && c <= e && e <= len,
             None => false,
         },
-        Call::EndReader => gone(h).is_none(),
+        Call::EndReader { .. } => gone(h).is_none(),
         Call::CancelRead | Call::CancelFlush => true,
     }
 }
@@ -278,8 +282,8 @@ fn random_call(dice: &mut Dice) -> Call {
         }
         16 => Call::CancelRead,
         17 => Call::CancelFlush,
-        18 => Call::EndWriter,
-        _ => Call::EndReader,
+        18 => WRITER_ENDS,
+        _ => READER_ENDS,
     }
 }
 

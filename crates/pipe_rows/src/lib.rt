@@ -25,4 +25,6 @@ mod scripts;
 #[cfg(test)]
 mod shared;
 #[cfg(test)]
+mod steps;
+#[cfg(test)]
 mod turns;

@@ -1,12 +1,45 @@
 //! Known runs of a pipe for one thread.
 
-ghost use Rattle.std.specs.Prelude.{◌≡◌, None, IsNone, IsSome, OnOk};
+ghost use Rattle.std.specs.Prelude.{◌≡◌, [], None, IsNone, IsSome, IfOk, OnOk};
+ghost use Rattle.pipe_shared.specs.Local.{LocalKeeps};
 
 use crate::replies::{FLUSHED, NOBODY, THE_READER, reply};
-use crate::shared::{SMALL, is_just};
+use crate::shared::{SMALL, are_all, is_just};
 use pipe_core::{FlushReply, ReadReply, TooMuch, Wake};
-use pipe_shared::{Carried, LocalFull, LocalPipe, LocalRoomFault, MakeError};
+use pipe_shared::{Full, LocalPipe, LocalRoomFault, MakeError, Options};
+use pipe_state::numbered_blocks_fit;
+use seg_block::own_blocks;
 use std::process::Abort;
+
+// A pipe of two segments of 64 bytes, with these thresholds.
+pub(crate) fn make_local(rt: &HostRuntime, pause: u64, resume: u64) -> Result<LocalPipe, MakeError>
+    ensures { IfOk result (λ pipe. LocalKeeps pipe []) }
+{
+    numbered_blocks_fit();
+    let options = Options {
+        pause,
+        resume,
+        ..SMALL
+    };
+    let Ok(blocks) = own_blocks(rt.alloc(), 2, 64) else {
+        return Err(MakeError::OutOfMemory);
+    };
+    match LocalPipe::make(rt.alloc(), options, blocks) {
+        Ok(pipe) => Ok(pipe),
+        Err(refused) => Err(refused.error),
+    }
+}
+
+// Asks for room. Whether an end has completed and what is lent stay.
+pub(crate) fn ask_room(pipe: &mut LocalPipe, hint: usize) -> Result<usize, LocalRoomFault>
+    requires { IsNone pipe.old.pipe.control.ended }
+    ensures { pipe.new.pipe.control ≡ pipe.old.pipe.control }
+{
+    match pipe.room(hint) {
+        Ok(granted) => Ok(granted),
+        Err(fault) => Err(fault),
+    }
+}
 
 // Writes these bytes to the front of the free part, and tells so.
 pub(crate) fn draft_local(pipe: &mut LocalPipe, bytes: &[u8]) -> bool
@@ -137,7 +170,7 @@ fn pause_run(rt: &impl Abort, pipe: &mut LocalPipe)
 
 #[test]
 fn a_plain_run_of_a_pipe_for_one_thread(rt: HostRuntime) -> Result<(), MakeError> {
-    let mut pipe = LocalPipe::make(rt.alloc(), SMALL)?;
+    let mut pipe = make_local(&rt, 8, 4)?;
     begin_run(&rt, &mut pipe);
     let (_, flushed, woken) = write_while_lent(&mut pipe, b"abc").ok_or(MakeError::OutOfMemory)?;
     assert!(rt; flushed == Ok((FLUSHED, NOBODY)) && woken == NOBODY);
@@ -149,38 +182,45 @@ fn a_plain_run_of_a_pipe_for_one_thread(rt: HostRuntime) -> Result<(), MakeError
     assert!(rt; use_up(&mut pipe, b"12345678", 8, 8) == Some((reply(Some(0), 8), NOBODY)));
     assert!(rt; pipe.read() == (reply(Some(0), 0), NOBODY));
     assert!(rt; pipe.end_reader(0) == NOBODY);
-    let carried = pipe.close();
-    assert!(rt;
-        carried
-            == Carried {
-                committed: 13,
-                consumed: 13
-            }
-    );
+    let closed = pipe.close();
+    assert!(rt; closed.committed == 13 && closed.consumed == 13);
+    assert!(rt; closed.blocks.len() == 2 && are_all(&closed.blocks, 2));
     Ok(())
 }
 
+// How room is refused where so many segments are with the writer, wait for the reader, and are with it.
+fn full(writer: usize, waiting: usize, reader: usize) -> LocalRoomFault {
+    LocalRoomFault::Full(Full {
+        writer,
+        waiting,
+        reader,
+    })
+}
+
 #[test]
-fn room_for_one_thread_is_granted_up_to_the_capacity(rt: HostRuntime) -> Result<(), MakeError> {
-    let mut pipe = LocalPipe::make(rt.alloc(), SMALL)?;
+fn room_for_one_thread_is_granted_while_a_segment_is_at_home(
+    rt: HostRuntime,
+) -> Result<(), MakeError> {
+    let mut pipe = make_local(&rt, 8, 4)?;
     let too_large = LocalRoomFault::TooLarge {
         hint: 65,
         segment: 64,
     };
     assert!(rt; pipe.spare_mut().len() == 0);
-    assert!(rt; pipe.room(65) == Err(too_large));
-    assert!(rt; pipe.room(1) == Ok(64));
+    assert!(rt; ask_room(&mut pipe, 65) == Err(too_large));
+    assert!(rt; ask_room(&mut pipe, 1) == Ok(64));
     assert!(rt; draft_local(&mut pipe, &[7; 60]));
-    assert!(rt; pipe.room(4) == Ok(4));
+    assert!(rt; ask_room(&mut pipe, 4) == Ok(4));
     assert!(rt; flush(&mut pipe).is_ok());
-    assert!(rt; pipe.room(5) == Ok(64));
+    assert!(rt; ask_room(&mut pipe, 5) == Ok(64));
     assert!(rt; draft_local(&mut pipe, &[9; 64]));
-    let full = LocalRoomFault::Full(LocalFull {
-        held: 60,
-        draft: 64,
-        capacity: 128,
-    });
-    assert!(rt; pipe.room(5) == Err(full));
-    assert!(rt; pipe.room(4) == Ok(4));
+    assert!(rt; ask_room(&mut pipe, 1) == Err(full(1, 1, 0)));
+    assert!(rt; use_up(&mut pipe, &[7; 60], 59, 60).is_some());
+    assert!(rt; ask_room(&mut pipe, 1) == Err(full(1, 0, 1)));
+    assert!(rt; flush(&mut pipe).is_ok());
+    let mut lent = [9; 65];
+    lent[0] = 7;
+    assert!(rt; use_up(&mut pipe, &lent, 1, 65).is_some());
+    assert!(rt; ask_room(&mut pipe, 1) == Ok(64));
     Ok(())
 }

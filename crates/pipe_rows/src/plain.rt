@@ -2,14 +2,15 @@
 
 ghost use Rattle.std.specs.Prelude.{◌≡◌, ◌≤◌, [], length, IsNone};
 
-use crate::replies::{FLUSHED, NOBODY, THE_READER, THE_WRITER, reply};
+use crate::player::{Call, Player, Told, advances, are_told, commits, reads};
+use crate::replies::{FLUSHED, NOBODY, THE_READER, THE_WRITER, is_held, reply, waits};
 use pipe_core::{Control, FlushReply, PlainPipe, ReadReply, TooMuch, Wake};
 use std::alloc::AllocError;
 
 pub(crate) type Flushed = Result<(FlushReply, Wake), TooMuch>;
 
-fn waits(unexamined: u64) -> Flushed {
-    Ok((FlushReply::Pending { unexamined }, NOBODY))
+fn pauses(unexamined: u64) -> Flushed {
+    Ok((is_held(unexamined), NOBODY))
 }
 
 fn lent(len: u64) -> ReadReply {
@@ -48,73 +49,85 @@ fn use_up(control: &mut Control, consumed: u64, examined: u64) -> (ReadReply, Wa
 #[test]
 fn a_control_pauses_and_wakes(rt: HostRuntime) {
     let mut control = Control::new(8, 4);
-    assert_eq!(rt; commit(&mut control, 7), Ok((FLUSHED, NOBODY)));
-    assert_eq!(rt; commit(&mut control, 1), waits(8));
-    assert_eq!(rt; use_up(&mut control, 0, 4), (lent(8), NOBODY));
-    assert_eq!(rt; commit(&mut control, 0), waits(4));
-    assert_eq!(rt; use_up(&mut control, 0, 5), (lent(8), THE_WRITER));
-    assert_eq!(rt; commit(&mut control, 0), Ok((FLUSHED, NOBODY)));
+    assert!(rt; commit(&mut control, 7) == Ok((FLUSHED, NOBODY)));
+    assert!(rt; commit(&mut control, 1) == pauses(8));
+    assert!(rt; use_up(&mut control, 0, 4) == (lent(8), NOBODY));
+    assert!(rt; commit(&mut control, 0) == pauses(4));
+    assert!(rt; use_up(&mut control, 0, 5) == (lent(8), THE_WRITER));
+    assert!(rt; commit(&mut control, 0) == Ok((FLUSHED, NOBODY)));
 }
 
 #[test]
 fn a_control_cancels_and_completes(rt: HostRuntime) {
-    let waiting = ReadReply::Pending {
-        examined: 5,
-        held: 5,
-    };
-    let ready = |canceled, ended| ReadReply::Ready {
-        canceled,
-        ended,
+    let canceled = ReadReply::Ready {
+        canceled: true,
+        ended: None,
         len: 5,
     };
-    let mut control = Control::new(0, 1);
-    assert_eq!(rt; commit(&mut control, 5), Ok((FLUSHED, NOBODY)));
-    assert_eq!(rt; use_up(&mut control, 0, 5), (lent(5), NOBODY));
-    assert_eq!(rt; use_up(&mut control, 0, 5), (waiting, NOBODY));
-    assert_eq!(rt; control.cancel_read(), THE_READER);
-    assert_eq!(rt; use_up(&mut control, 0, 5), (ready(true, None), NOBODY));
-    assert_eq!(rt; use_up(&mut control, 0, 5), (waiting, NOBODY));
-    assert_eq!(rt; control.end_writer(7), THE_READER);
-    assert_eq!(rt; use_up(&mut control, 5, 5), (ready(false, Some(7)), NOBODY));
+    let rows = [
+        commits(5, FLUSHED, NOBODY),
+        reads(0, lent(5), NOBODY),
+        advances(0, 5, NOBODY),
+        reads(0, waits(5, 5), NOBODY),
+        (Call::CancelRead, Told::Woke(THE_READER)),
+        reads(0, canceled, NOBODY),
+        advances(0, 5, NOBODY),
+        reads(0, waits(5, 5), NOBODY),
+        (Call::EndWriter { code: 7 }, Told::Woke(THE_READER)),
+        reads(0, reply(Some(7), 5), NOBODY),
+        advances(5, 5, NOBODY),
+    ];
+    assert!(rt; are_told(&mut Player::new(0, 1), &rows));
 }
 
 #[test]
 fn a_control_lets_a_writer_go_on(rt: HostRuntime) {
-    let ready = |canceled, gone| Ok((FlushReply::Ready { canceled, gone }, NOBODY));
-    let mut control = Control::new(8, 4);
-    assert_eq!(rt; commit(&mut control, 8), waits(8));
-    assert_eq!(rt; control.cancel_flush(), THE_WRITER);
-    assert_eq!(rt; commit(&mut control, 0), ready(true, None));
-    assert_eq!(rt; commit(&mut control, 0), waits(8));
-    assert_eq!(rt; control.end_reader(9), THE_WRITER);
-    assert_eq!(rt; commit(&mut control, 0), ready(false, Some(9)));
-    assert_eq!(rt; commit(&mut control, 5), ready(false, Some(9)));
+    let ready = |canceled, gone| FlushReply::Ready { canceled, gone };
+    let rows = [
+        commits(8, is_held(8), NOBODY),
+        (Call::CancelFlush, Told::Woke(THE_WRITER)),
+        commits(0, ready(true, None), NOBODY),
+        commits(0, is_held(8), NOBODY),
+        (Call::EndReader { code: 9 }, Told::Woke(THE_WRITER)),
+        commits(0, ready(false, Some(9)), NOBODY),
+        commits(5, ready(false, Some(9)), NOBODY),
+    ];
+    assert!(rt; are_told(&mut Player::new(8, 4), &rows));
 }
 
 #[test]
 fn a_control_takes_two_to_the_62_bytes(rt: HostRuntime) {
     let most = 1 << 62;
     let mut control = Control::new(0, 1);
-    assert_eq!(rt; commit(&mut control, most), Ok((FLUSHED, NOBODY)));
-    assert_eq!(rt; commit(&mut control, 1), Err(TooMuch { total: most }));
-    assert_eq!(rt; commit(&mut control, 0), Ok((FLUSHED, NOBODY)));
+    assert!(rt; commit(&mut control, most) == Ok((FLUSHED, NOBODY)));
+    assert!(rt; commit(&mut control, 1) == Err(TooMuch { total: most }));
+    assert!(rt; commit(&mut control, 0) == Ok((FLUSHED, NOBODY)));
 }
 
 #[test]
 fn an_examined_mark_never_falls(rt: HostRuntime) {
-    let mut control = Control::new(0, 1);
-    assert_eq!(rt; commit(&mut control, 10), Ok((FLUSHED, NOBODY)));
-    assert_eq!(rt; use_up(&mut control, 0, 10), (lent(10), NOBODY));
-    assert_eq!(rt; commit(&mut control, 1), Ok((FLUSHED, NOBODY)));
-    assert_eq!(rt; use_up(&mut control, 0, 2), (lent(11), NOBODY));
-    assert_eq!(rt; use_up(&mut control, 0, 11), (lent(11), NOBODY));
+    let rows = [
+        commits(10, FLUSHED, NOBODY),
+        reads(0, lent(10), NOBODY),
+        advances(0, 10, NOBODY),
+        commits(1, FLUSHED, NOBODY),
+        reads(0, lent(11), NOBODY),
+        advances(0, 2, NOBODY),
+        reads(0, lent(11), NOBODY),
+        advances(0, 11, NOBODY),
+    ];
+    assert!(rt; are_told(&mut Player::new(0, 1), &rows));
     // Where it fell to 2, the last commit would begin no pause.
-    let mut control = Control::new(4, 4);
-    assert_eq!(rt; commit(&mut control, 10), waits(10));
-    assert_eq!(rt; use_up(&mut control, 0, 10), (lent(10), THE_WRITER));
-    assert_eq!(rt; commit(&mut control, 1), Ok((FLUSHED, NOBODY)));
-    assert_eq!(rt; use_up(&mut control, 0, 2), (lent(11), NOBODY));
-    assert_eq!(rt; commit(&mut control, 3), waits(4));
+    let rows = [
+        commits(10, is_held(10), NOBODY),
+        reads(0, lent(10), NOBODY),
+        advances(0, 10, THE_WRITER),
+        commits(1, FLUSHED, NOBODY),
+        reads(0, lent(11), NOBODY),
+        advances(0, 2, NOBODY),
+        commits(3, is_held(4), NOBODY),
+    ];
+    assert!(rt; are_told(&mut Player::new(4, 4), &rows));
 }
 
 // Writes as much of `bytes` as there is room for.
@@ -183,81 +196,150 @@ fn use_up_bytes(pipe: &mut PlainPipe, bytes: &[u8], consumed: u64, examined: u64
     is_lent.then_some(wake)
 }
 
+// A call of a pipe that no end has left, with no lend before it and behind it, and what it is told.
+#[derive(Clone, Copy)]
+enum Step<'a> {
+    Write(&'a [u8]),
+    Flush(FlushReply, Wake),
+    // These bytes are lent, of which the first so many are consumed and the first so many examined.
+    UseUp(&'a [u8], u64, u64, Wake),
+    // So many bytes are free.
+    Spare(usize),
+}
+
+fn is_told(pipe: &mut PlainPipe, step: Step<'_>) -> bool
+    requires going { IsNone pipe.old.control.ended }
+    requires attended { IsNone pipe.old.control.gone }
+    requires no_lend { IsNone pipe.old.control.lent }
+    ensures going { IsNone pipe.new.control.ended }
+    ensures attended { IsNone pipe.new.control.gone }
+    ensures no_lend { IsNone pipe.new.control.lent }
+{
+    match step {
+        Step::Write(bytes) => {
+            write(pipe, bytes);
+            true
+        }
+        Step::Flush(reply, wake) => flush(pipe) == Ok((reply, wake)),
+        Step::UseUp(bytes, c, e, wake) => use_up_bytes(pipe, bytes, c, e) == Some(wake),
+        Step::Spare(count) => pipe.spare_mut().len() == count,
+    }
+}
+
+// Whether each step in turn is told so.
+fn are_all_told(pipe: &mut PlainPipe, steps: &[Step<'_>]) -> bool
+    requires going { IsNone pipe.old.control.ended }
+    requires attended { IsNone pipe.old.control.gone }
+    requires no_lend { IsNone pipe.old.control.lent }
+    ensures going { IsNone pipe.new.control.ended }
+    ensures attended { IsNone pipe.new.control.gone }
+    ensures no_lend { IsNone pipe.new.control.lent }
+{
+    for step in steps {
+        if !is_told(pipe, *step) {
+            return false;
+        }
+    }
+    true
+}
+
 #[test]
 fn a_pipe_pauses_and_wakes(rt: HostRuntime) -> Result<(), AllocError> {
     let mut pipe = PlainPipe::make(rt.alloc(), 64, 8, 4)?;
-    assert_eq!(rt; pipe.capacity(), 64);
-    assert_eq!(rt; pipe.spare_mut().len(), 64);
-    write(&mut pipe, b"abcdefg");
-    assert_eq!(rt; flush(&mut pipe), Ok((FLUSHED, NOBODY)));
-    write(&mut pipe, b"h");
-    assert_eq!(rt; flush(&mut pipe), waits(8));
-    assert_eq!(rt; use_up_bytes(&mut pipe, b"abcdefgh", 0, 4), Some(NOBODY));
-    assert_eq!(rt; flush(&mut pipe), waits(4));
-    assert_eq!(rt;
-        use_up_bytes(&mut pipe, b"abcdefgh", 0, 5),
-        Some(THE_WRITER)
-    );
-    assert_eq!(rt; flush(&mut pipe), Ok((FLUSHED, NOBODY)));
-    assert_eq!(rt; pipe.spare_mut().len(), 56);
+    assert!(rt; pipe.capacity() == 64);
+    let steps = [
+        Step::Spare(64),
+        Step::Write(b"abcdefg"),
+        Step::Flush(FLUSHED, NOBODY),
+        Step::Write(b"h"),
+        Step::Flush(is_held(8), NOBODY),
+        Step::UseUp(b"abcdefgh", 0, 4, NOBODY),
+        Step::Flush(is_held(4), NOBODY),
+        Step::UseUp(b"abcdefgh", 0, 5, THE_WRITER),
+        Step::Flush(FLUSHED, NOBODY),
+        Step::Spare(56),
+    ];
+    assert!(rt; are_all_told(&mut pipe, &steps));
     Ok(())
+}
+
+// Whether three bytes are lent, and the same ones once two more are committed. They are examined then.
+fn is_lent_as_before(pipe: &mut PlainPipe) -> bool
+    requires going { IsNone pipe.old.control.ended }
+    requires attended { IsNone pipe.old.control.gone }
+    requires no_lend { IsNone pipe.old.control.lent }
+    ensures going { IsNone pipe.new.control.ended }
+    ensures attended { IsNone pipe.new.control.gone }
+    ensures no_lend { IsNone pipe.new.control.lent }
+{
+    let (ReadReply::Ready { len, .. }, _) = pipe.read() else {
+        return false;
+    };
+    write(pipe, b"de");
+    let flushed = flush(pipe);
+    let is_lent = pipe.lent() == b"abc".as_slice();
+    let wake = pipe.advance(0, len);
+    len == 3 && flushed == Ok((FLUSHED, NOBODY)) && is_lent && wake == NOBODY
 }
 
 #[test]
 fn a_pipe_lends_what_was_committed_before_the_read(rt: HostRuntime) -> Result<(), AllocError> {
     let mut pipe = PlainPipe::make(rt.alloc(), 64, 0, 1)?;
-    write(&mut pipe, b"abc");
-    assert_eq!(rt; flush(&mut pipe), Ok((FLUSHED, NOBODY)));
-    let (ReadReply::Ready { len: 3, .. }, _) = pipe.read() else {
-        return Err(AllocError);
-    };
-    write(&mut pipe, b"de");
-    assert_eq!(rt; flush(&mut pipe), Ok((FLUSHED, NOBODY)));
-    assert_eq!(rt; pipe.lent(), b"abc".as_slice());
-    assert_eq!(rt; pipe.advance(0, 3), NOBODY);
-    write(&mut pipe, b"f");
-    assert_eq!(rt; use_up_bytes(&mut pipe, b"abcde", 2, 5), Some(NOBODY));
+    let steps = [Step::Write(b"abc"), Step::Flush(FLUSHED, NOBODY)];
+    assert!(rt; are_all_told(&mut pipe, &steps));
+    assert!(rt; is_lent_as_before(&mut pipe));
+    let steps = [Step::Write(b"f"), Step::UseUp(b"abcde", 2, 5, NOBODY)];
+    assert!(rt; are_all_told(&mut pipe, &steps));
     let waiting = ReadReply::Pending {
         examined: 5,
         held: 3,
     };
-    assert_eq!(rt; pipe.read(), (waiting, NOBODY));
-    assert_eq!(rt; complete(&mut pipe, 7), Ok(THE_READER));
-    assert_eq!(rt; use_up_bytes(&mut pipe, b"cdef", 4, 4), Some(NOBODY));
-    assert_eq!(rt; pipe.end_reader(0), NOBODY);
+    assert!(rt; pipe.read() == (waiting, NOBODY));
+    assert!(rt; complete(&mut pipe, 7) == Ok(THE_READER));
+    assert!(rt; use_up_bytes(&mut pipe, b"cdef", 4, 4) == Some(NOBODY));
+    assert!(rt; pipe.end_reader(0) == NOBODY);
     Ok(())
 }
 
 #[test]
 fn a_pipe_is_canceled_and_left(rt: HostRuntime) -> Result<(), AllocError> {
     let mut pipe = PlainPipe::make(rt.alloc(), 8, 2, 2)?;
-    assert_eq!(rt; pipe.cancel_read(), NOBODY);
+    assert!(rt; pipe.cancel_read() == NOBODY);
     write(&mut pipe, b"abc");
-    assert_eq!(rt; flush(&mut pipe), waits(3));
-    assert_eq!(rt; pipe.cancel_flush(), THE_WRITER);
-    assert_eq!(rt; pipe.end_reader(9), NOBODY);
-    assert_eq!(rt; pipe.spare_mut().len(), 8);
+    assert!(rt; flush(&mut pipe) == pauses(3));
+    assert!(rt; pipe.cancel_flush() == THE_WRITER);
+    assert!(rt; pipe.end_reader(9) == NOBODY);
+    assert!(rt; pipe.spare_mut().len() == 8);
     write(&mut pipe, b"abcdefgh");
-    assert_eq!(rt; pipe.spare_mut().len(), 0);
+    assert!(rt; pipe.spare_mut().len() == 0);
     let left = FlushReply::Ready {
         canceled: true,
         gone: Some(9),
     };
-    assert_eq!(rt; flush(&mut pipe), Ok((left, NOBODY)));
-    assert_eq!(rt; pipe.spare_mut().len(), 8);
+    assert!(rt; flush(&mut pipe) == Ok((left, NOBODY)));
+    assert!(rt; pipe.spare_mut().len() == 8);
     Ok(())
+}
+
+// How many bytes it holds, and how many were committed and consumed.
+fn counts(pipe: &PlainPipe) -> (u64, u64, u64) {
+    (pipe.held_len() as u64, pipe.committed(), pipe.consumed())
 }
 
 #[test]
 fn a_pipe_takes_bytes_that_were_not_drafted(rt: HostRuntime) -> Result<(), AllocError> {
-    let counts = |pipe: &PlainPipe| (pipe.held_len(), pipe.committed(), pipe.consumed());
     let mut pipe = PlainPipe::make(rt.alloc(), 8, 0, 1)?;
-    assert_eq!(rt; write_whole(&mut pipe, b"abc"), Ok((FLUSHED, NOBODY)));
-    assert_eq!(rt; counts(&pipe), (3, 3, 0));
-    assert_eq!(rt; use_up_bytes(&mut pipe, b"abc", 1, 3), Some(NOBODY));
-    assert_eq!(rt; counts(&pipe), (2, 3, 1));
-    let mut last = PlainPipe::make(rt.alloc(), 8, 0, 1)?;
-    assert_eq!(rt; last.write_last(b"ab", 7), Ok(NOBODY));
-    assert_eq!(rt; counts(&last), (2, 2, 0));
+    assert!(rt; write_whole(&mut pipe, b"abc") == Ok((FLUSHED, NOBODY)));
+    assert!(rt; counts(&pipe) == (3, 3, 0));
+    assert!(rt; use_up_bytes(&mut pipe, b"abc", 1, 3) == Some(NOBODY));
+    assert!(rt; counts(&pipe) == (2, 3, 1));
+    Ok(())
+}
+
+#[test]
+fn a_pipe_takes_its_last_bytes_and_completes(rt: HostRuntime) -> Result<(), AllocError> {
+    let mut pipe = PlainPipe::make(rt.alloc(), 8, 0, 1)?;
+    assert!(rt; pipe.write_last(b"ab", 7) == Ok(NOBODY));
+    assert!(rt; counts(&pipe) == (2, 2, 0));
     Ok(())
 }

@@ -8,14 +8,14 @@ use crate::plain::commit;
 use pipe_core::{Control, FlushReply, ReadReply, Wake};
 use std::marker::Model;
 
-/// A call, with the codes 3 and 5 where an end completes.
+/// A call.
 #[derive(Clone, Copy, PartialEq, Eq)]
 pub(crate) enum Call {
     Commit { bytes: u64 },
-    EndWriter,
+    EndWriter { code: u32 },
     Read { least: u64 },
     Advance { c: u64, e: u64 },
-    EndReader,
+    EndReader { code: u32 },
     CancelRead,
     CancelFlush,
 }
@@ -26,6 +26,32 @@ pub(crate) enum Told {
     Flushed(FlushReply, Wake),
     Gave(ReadReply, Wake),
     Woke(Wake),
+}
+
+/// A call, and what it is told.
+pub(crate) type Row = (Call, Told);
+
+pub(crate) fn commits(bytes: u64, reply: FlushReply, wake: Wake) -> Row {
+    (Call::Commit { bytes }, Told::Flushed(reply, wake))
+}
+
+/// A read for at least so many bytes.
+pub(crate) fn reads(least: u64, reply: ReadReply, wake: Wake) -> Row {
+    (Call::Read { least }, Told::Gave(reply, wake))
+}
+
+pub(crate) fn advances(c: u64, e: u64, wake: Wake) -> Row {
+    (Call::Advance { c, e }, Told::Woke(wake))
+}
+
+/// Whether each call in turn may be made, and is told so.
+pub(crate) fn are_told(player: &mut Player, rows: &[Row]) -> bool {
+    for (call, told) in rows.iter().copied() {
+        if player.make(call) != Some(told) {
+            return false;
+        }
+    }
+    true
 }
 
 /// A control, with what has to be known before a call: whether an end has completed, and what is lent.
@@ -64,10 +90,10 @@ impl Player {
     pub(crate) fn make(&mut self, call: Call) -> Option<Told> {
         match call {
             Call::Commit { bytes } => self.commit(bytes),
-            Call::EndWriter => self.end_writer(),
+            Call::EndWriter { code } => self.end_writer(code),
             Call::Read { least } => self.read(least),
             Call::Advance { c, e } => self.advance(c, e),
-            Call::EndReader => self.end_reader(),
+            Call::EndReader { code } => self.end_reader(code),
             Call::CancelRead => Some(Told::Woke(self.control.cancel_read())),
             Call::CancelFlush => Some(Told::Woke(self.control.cancel_flush())),
         }
@@ -83,11 +109,11 @@ impl Player {
         }
     }
 
-    fn end_writer(&mut self) -> Option<Told> {
+    fn end_writer(&mut self, code: u32) -> Option<Told> {
         if self.is_ended {
             return None;
         }
-        let wake = self.control.end_writer(3);
+        let wake = self.control.end_writer(code);
         self.is_ended = true;
         Some(Told::Woke(wake))
     }
@@ -111,11 +137,11 @@ impl Player {
         Some(Told::Woke(wake))
     }
 
-    fn end_reader(&mut self) -> Option<Told> {
+    fn end_reader(&mut self, code: u32) -> Option<Told> {
         if self.is_gone {
             return None;
         }
-        let wake = self.control.end_reader(5);
+        let wake = self.control.end_reader(code);
         self.is_gone = true;
         self.lent = None;
         Some(Told::Woke(wake))

@@ -30,3 +30,13 @@ pub(crate) fn reply(ended: Option<u32>, len: u64) -> ReadReply {
         len,
     }
 }
+
+// The reply of a read that waits.
+pub(crate) fn waits(examined: u64, held: u64) -> ReadReply {
+    ReadReply::Pending { examined, held }
+}
+
+// The reply of a flush that waits.
+pub(crate) fn is_held(unexamined: u64) -> FlushReply {
+    FlushReply::Pending { unexamined }
+}

@@ -10,7 +10,7 @@ use crate::replies::NOBODY;
 use crate::shared::{
     are_all, complete, complete_reader, draft, is_in_order, make, number_at, read,
 };
-use pipe_shared::{Options, Pipe, ReaderEnd, WriterEnd};
+use pipe_shared::{Canceller, Closed, Options, Pipe, ReaderEnd, WriterEnd};
 
 const SCRIPTS: u64 = 1_000;
 
@@ -108,8 +108,28 @@ fn is_answered_alike(
     }
 }
 
-// Whether all calls of a random script on a new pipe are answered as by the queue, and so is how much it has carried. None for want of
-// memory.
+// Whether all calls of a random script are answered as by the queue. None for want of memory.
+fn are_answered_alike(
+    pipe: &Pipe,
+    w: &mut WriterEnd,
+    r: &mut ReaderEnd,
+    queue: &mut Queue,
+    dice: &mut Dice,
+) -> Option<bool>
+    requires writer { IsOf pipe.now w.old.seat }
+    requires reader { IsOf pipe.now r.old.seat }
+    ensures writer { IsOf pipe.now w.new.seat }
+    ensures reader { IsOf pipe.now r.new.seat }
+{
+    for _ in 0..CALLS {
+        if !is_answered_alike(pipe, w, r, queue, dice)? {
+            return Some(false);
+        }
+    }
+    Some(true)
+}
+
+// The same on a new pipe, and whether it has then carried as much as the queue.
 fn is_played_alike(rt: &HostRuntime, segments: usize, dice: &mut Dice) -> Option<bool> {
     let options = Options {
         segment: SEGMENT,
@@ -119,16 +139,21 @@ fn is_played_alike(rt: &HostRuntime, segments: usize, dice: &mut Dice) -> Option
     };
     let (pipe, mut w, mut r, k) = make(rt, options)?;
     let mut queue = Queue::new(rt.alloc(), segments);
-    for _ in 0..CALLS {
-        if !is_answered_alike(&pipe, &mut w, &mut r, &mut queue, dice)? {
-            return Some(false);
-        }
-    }
+    let played = are_answered_alike(&pipe, &mut w, &mut r, &mut queue, dice);
+    let closed = close(pipe, w, r, k)?;
+    let carried = (closed.committed, closed.consumed) == queue.carried();
+    Some(played? && carried && are_all(&closed.blocks, segments as u64))
+}
+
+// Completes both ends, and closes the pipe.
+fn close(pipe: Pipe, w: WriterEnd, r: ReaderEnd, k: Canceller) -> Option<Closed>
+    requires writer { IsOf pipe w.seat }
+    requires reader { IsOf pipe r.seat }
+    requires canceller { IsOf pipe k }
+{
     let (w, _) = complete(&pipe, w)?;
     let (r, _) = complete_reader(&pipe, r)?;
-    let closed = pipe.close(w, r, k);
-    let carried = (closed.committed, closed.consumed) == queue.carried();
-    Some(carried && are_all(&closed.blocks, segments as u64))
+    Some(pipe.close(w, r, k))
 }
 
 #[test]

@@ -4,7 +4,8 @@ ghost use Rattle.std.specs.Prelude.{◌≡◌, None, IfOk, IfSome, IsNone};
 ghost use Rattle.std.specs.Thread.{IsSync};
 ghost use Rattle.turn_cell.specs.Seat.{IsOf};
 
-use crate::replies::{FLUSHED, NOBODY, THE_READER, THE_WRITER, reply};
+use crate::replies::{FLUSHED, NOBODY, THE_READER, is_held, reply, waits};
+use crate::steps::{Step, are_told, is_told};
 use pipe_core::{FlushReply, ReadReply, Wake};
 use pipe_shared::{
     Canceller, Closed, Field, FlushFault, Made, MakeError, MakeRefused, Options, Pipe, ReaderDone,
@@ -121,7 +122,7 @@ pub(crate) fn is_just<C: Spans>(lent: &Sequence<'_, C>, bytes: &[u8]) -> bool {
 }
 
 // Advances, where so many bytes are lent and are these.
-fn advance(pipe: &Pipe, r: &mut ReaderEnd, lent: &[u8], c: u64, e: u64) -> Option<Woke>
+pub(crate) fn advance(pipe: &Pipe, r: &mut ReaderEnd, lent: &[u8], c: u64, e: u64) -> Option<Woke>
     requires { IsOf pipe.now r.old.seat }
     ensures { IsOf pipe.now r.new.seat }
 {
@@ -136,51 +137,52 @@ fn advance(pipe: &Pipe, r: &mut ReaderEnd, lent: &[u8], c: u64, e: u64) -> Optio
 }
 
 // Whether all that is lent lies in one span.
-fn lends_one_span(r: &ReaderEnd) -> bool {
+pub(crate) fn lends_one_span(r: &ReaderEnd) -> bool {
     r.lending() && r.lent().is_single() && r.chain().count() == 1
-}
-
-pub(crate) fn lends(len: u64) -> Option<Gave> {
-    ready(None, len)
 }
 
 fn ready(ended: Option<u32>, len: u64) -> Option<Gave> {
     Some(Ok((reply(ended, len), NOBODY)))
 }
 
-// A read that waits, where nothing is held.
-fn waits(examined: u64) -> Option<Gave> {
-    Some(Ok((ReadReply::Pending { examined, held: 0 }, NOBODY)))
-}
-
 #[test]
 fn a_plain_run_of_a_pipe(rt: HostRuntime) -> Result<(), Fail> {
     let (pipe, mut w, mut r, k) = make(&rt, SMALL).ok_or("memory")?;
-    assert!(rt; pipe.try_room(&mut w, 0) == Ok(64));
-    assert!(rt; draft(&mut w, b"abc"));
-    assert_eq!(rt; w.unflushed(), 3);
-    assert!(rt; read(&pipe, &mut r) == waits(0));
-    assert!(rt; pipe.try_flush(&mut w) == Ok((FLUSHED, THE_READER)));
-    assert!(rt; read(&pipe, &mut r) == lends(3));
-    assert!(rt; lends_one_span(&r));
-    assert!(rt; send(&pipe, &mut w, b"de") == Some(Ok((FLUSHED, NOBODY))));
-    assert!(rt; advance(&pipe, &mut r, b"abc", 1, 3) == Some(Ok(NOBODY)));
-    assert!(rt; read(&pipe, &mut r) == lends(4));
-    assert!(rt; lends_one_span(&r));
-    assert!(rt; advance(&pipe, &mut r, b"bcde", 4, 4) == Some(Ok(NOBODY)));
-    assert!(rt; read(&pipe, &mut r) == waits(5));
-    let held = FlushReply::Pending { unexamined: 8 };
-    assert!(rt; send(&pipe, &mut w, b"12345678") == Some(Ok((held, THE_READER))));
+    let steps = [
+        Step::Room(0, Ok(64)),
+        Step::Draft(b"abc"),
+        Step::Unflushed(3),
+        Step::Read(waits(0, 0), NOBODY),
+        Step::Flush(FLUSHED, THE_READER),
+        Step::Read(reply(None, 3), NOBODY),
+        Step::LendsOneSpan,
+        Step::Send(b"de", FLUSHED, NOBODY),
+        Step::Advance(b"abc", 1, 3, NOBODY),
+        Step::Read(reply(None, 4), NOBODY),
+        Step::LendsOneSpan,
+        Step::Advance(b"bcde", 4, 4, NOBODY),
+        Step::Read(waits(5, 0), NOBODY),
+        Step::Send(b"12345678", is_held(8), THE_READER),
+    ];
+    assert!(rt; are_told(&pipe, &mut w, &mut r, &steps));
     let (w, wake) = complete(&pipe, w).ok_or("free")?;
     assert!(rt; wake == NOBODY);
-    assert!(rt; read(&pipe, &mut r) == ready(Some(0), 8));
-    assert!(rt; advance(&pipe, &mut r, b"12345678", 8, 8) == Some(Ok(NOBODY)));
-    assert!(rt; read(&pipe, &mut r) == ready(Some(0), 0));
+    assert!(rt; are_last_reads(&pipe, &mut r));
     let (r, wake) = complete_reader(&pipe, r).ok_or("free")?;
     assert!(rt; wake == NOBODY);
     let closed = pipe.close(w, r, k);
     assert!(rt; has_carried(&closed, 13, 2));
     Ok(())
+}
+
+// Whether the last eight bytes are lent with the writer's code, and nothing behind them.
+fn are_last_reads(pipe: &Pipe, r: &mut ReaderEnd) -> bool
+    requires { IsOf pipe.now r.old.seat }
+    ensures { IsOf pipe.now r.new.seat }
+{
+    read(pipe, r) == ready(Some(0), 8)
+        && advance(pipe, r, b"12345678", 8, 8) == Some(Ok(NOBODY))
+        && read(pipe, r) == ready(Some(0), 0)
 }
 
 // Reads by the call that waits, where no lend stands.
@@ -225,36 +227,99 @@ fn complete_waiting<R: Wait>(rt: &R, pipe: &Pipe, w: WriterEnd) -> Option<Writer
     pipe.complete(rt, w, 0).ok()
 }
 
+// A call that waits, and what it is told, or a step.
+#[derive(Clone, Copy)]
+enum Waiting<'a> {
+    Room(usize, usize),
+    Flush(FlushReply),
+    Read(ReadReply),
+    Advance(&'a [u8], u64, u64),
+    Tries(Step<'a>),
+}
+
+// Whether a call is told so.
+fn is_told_waiting<R: Wait>(
+    rt: &R,
+    pipe: &Pipe,
+    w: &mut WriterEnd,
+    r: &mut ReaderEnd,
+    call: Waiting<'_>,
+) -> bool
+    requires writer { IsOf pipe.now w.old.seat }
+    requires reader { IsOf pipe.now r.old.seat }
+    ensures writer { IsOf pipe.now w.new.seat }
+    ensures reader { IsOf pipe.now r.new.seat }
+{
+    match call {
+        Waiting::Room(hint, free) => pipe.room(rt, w, hint) == Ok(free),
+        Waiting::Flush(told) => pipe.flush(rt, w) == Ok(told),
+        Waiting::Read(told) => read_waiting(rt, pipe, r) == Some(told),
+        Waiting::Advance(lent, c, e) => advance_waiting(rt, pipe, r, lent, c, e),
+        Waiting::Tries(step) => is_told(pipe, w, r, step),
+    }
+}
+
+// Whether each call in turn is told so.
+fn are_told_waiting<R: Wait>(
+    rt: &R,
+    pipe: &Pipe,
+    w: &mut WriterEnd,
+    r: &mut ReaderEnd,
+    calls: &[Waiting<'_>],
+) -> bool
+    requires writer { IsOf pipe.now w.old.seat }
+    requires reader { IsOf pipe.now r.old.seat }
+    ensures writer { IsOf pipe.now w.new.seat }
+    ensures reader { IsOf pipe.now r.new.seat }
+{
+    for call in calls {
+        if !is_told_waiting(rt, pipe, w, r, *call) {
+            return false;
+        }
+    }
+    true
+}
+
 #[test]
 fn a_plain_run_of_a_pipe_by_calls_that_wait(rt: HostRuntime) -> Result<(), Fail> {
     let (pipe, mut w, mut r, k) = make(&rt, SMALL).ok_or("memory")?;
-    assert!(rt; pipe.room(&rt, &mut w, 0) == Ok(64));
-    assert!(rt; draft(&mut w, b"abc"));
-    assert!(rt; read(&pipe, &mut r) == waits(0));
-    assert!(rt; pipe.flush(&rt, &mut w) == Ok(FLUSHED));
-    assert!(rt; read_waiting(&rt, &pipe, &mut r) == Some(reply(None, 3)));
-    assert!(rt; draft(&mut w, b"de"));
-    assert!(rt; pipe.flush(&rt, &mut w) == Ok(FLUSHED));
-    assert!(rt; advance_waiting(&rt, &pipe, &mut r, b"abc", 1, 3));
-    assert!(rt; read_waiting(&rt, &pipe, &mut r) == Some(reply(None, 4)));
-    assert!(rt; advance_waiting(&rt, &pipe, &mut r, b"bcde", 4, 4));
-    assert!(rt; read(&pipe, &mut r) == waits(5));
-    let held = FlushReply::Pending { unexamined: 8 };
-    assert!(rt; send(&pipe, &mut w, b"12345678") == Some(Ok((held, THE_READER))));
+    let calls = [
+        Waiting::Room(0, 64),
+        Waiting::Tries(Step::Draft(b"abc")),
+        Waiting::Tries(Step::Read(waits(0, 0), NOBODY)),
+        Waiting::Flush(FLUSHED),
+        Waiting::Read(reply(None, 3)),
+        Waiting::Tries(Step::Draft(b"de")),
+        Waiting::Flush(FLUSHED),
+        Waiting::Advance(b"abc", 1, 3),
+        Waiting::Read(reply(None, 4)),
+        Waiting::Advance(b"bcde", 4, 4),
+        Waiting::Tries(Step::Read(waits(5, 0), NOBODY)),
+        Waiting::Tries(Step::Send(b"12345678", is_held(8), THE_READER)),
+    ];
+    assert!(rt; are_told_waiting(&rt, &pipe, &mut w, &mut r, &calls));
     let w = complete_waiting(&rt, &pipe, w).ok_or("too much")?;
-    assert!(rt; read_waiting(&rt, &pipe, &mut r) == Some(reply(Some(0), 8)));
-    assert!(rt; advance_waiting(&rt, &pipe, &mut r, b"12345678", 8, 8));
-    assert!(rt; read_waiting(&rt, &pipe, &mut r) == Some(reply(Some(0), 0)));
+    assert!(rt; are_last_reads_waiting(&rt, &pipe, &mut r));
     let r = pipe.complete_reader(&rt, r, 0);
     let closed = pipe.close(w, r, k);
     assert!(rt; has_carried(&closed, 13, 2));
     Ok(())
 }
 
+// The last reads by the calls that wait.
+fn are_last_reads_waiting<R: Wait>(rt: &R, pipe: &Pipe, r: &mut ReaderEnd) -> bool
+    requires { IsOf pipe.now r.old.seat }
+    ensures { IsOf pipe.now r.new.seat }
+{
+    read_waiting(rt, pipe, r) == Some(reply(Some(0), 8))
+        && advance_waiting(rt, pipe, r, b"12345678", 8, 8)
+        && read_waiting(rt, pipe, r) == Some(reply(Some(0), 0))
+}
+
 #[test]
 fn cancellations_end_the_pending_call_or_the_next(rt: HostRuntime) -> Result<(), Fail> {
     let (pipe, mut w, mut r, mut k) = make(&rt, SMALL).ok_or("memory")?;
-    assert!(rt; read(&pipe, &mut r) == waits(0));
+    assert!(rt; read(&pipe, &mut r) == Some(Ok((waits(0, 0), NOBODY))));
     assert!(rt; pipe.try_cancel_read(&mut k) == Ok(THE_READER));
     let reply = ReadReply::Ready {
         canceled: true,
@@ -500,7 +565,7 @@ fn three_threads_use_a_pipe_and_no_byte_is_lost(rt: HostRuntime) -> Result<(), F
     let (pipe, w, r, k) = make(&rt, SMALL).ok_or("memory")?;
     let (w, ((r, read), k)) = use_by_three(&rt, &pipe, w, r, k, 500);
     let closed = pipe.close(w, r, k);
-    assert_eq!(rt; read, 10_000);
+    assert!(rt; read == 10_000);
     assert!(rt; has_carried(&closed, 10_000, 2));
     Ok(())
 }
@@ -512,19 +577,34 @@ const TWO_SEGMENTS: Options = Options {
     resume: 0,
 };
 
-// Writes so many pieces of 20 bytes, each of which has its number in every byte, and completes.
-fn write_pieces<R: Wait>(rt: &R, pipe: &Pipe, mut w: WriterEnd, pieces: u64) -> Option<WriterDone>
-    requires { IsOf pipe.now w.seat }
-    ensures { IfSome result (λ done. IsOf pipe.now done) }
+// Takes room for these bytes, writes them and flushes, by calls that wait. Whether it was all granted.
+pub(crate) fn send_waiting<R: Wait>(rt: &R, pipe: &Pipe, w: &mut WriterEnd, bytes: &[u8]) -> bool
+    requires { IsOf pipe.now w.old.seat }
+    ensures { IsOf pipe.now w.new.seat }
+{
+    pipe.room(rt, w, bytes.len()).is_ok() && draft(w, bytes) && pipe.flush(rt, w).is_ok()
+}
+
+// Writes so many pieces of 20 bytes, each of which has its number in every byte, unless one is refused.
+fn write_numbered<R: Wait>(rt: &R, pipe: &Pipe, w: &mut WriterEnd, pieces: u64) -> bool
+    requires { IsOf pipe.now w.old.seat }
+    ensures { IsOf pipe.now w.new.seat }
 {
     for i in 0..pieces {
-        pipe.room(rt, &mut w, 20).ok()?;
-        if !draft(&mut w, &[(i & 255) as u8; 20]) {
-            return None;
+        if !send_waiting(rt, pipe, w, &[(i & 255) as u8; 20]) {
+            return false;
         }
-        pipe.flush(rt, &mut w).ok()?;
     }
-    complete_waiting(rt, pipe, w)
+    true
+}
+
+// The same, and completes.
+fn write_pieces<R: Wait>(rt: &R, pipe: &Pipe, mut w: WriterEnd, pieces: u64) -> Option<WriterDone>
+    requires { IsOf pipe.now w.seat }
+{
+    let all = write_numbered(rt, pipe, &mut w, pieces);
+    let done = complete_waiting(rt, pipe, w)?;
+    all.then_some(done)
 }
 
 // Whether these bytes are those of pieces of so many bytes, each of which has its number in every byte, where so many bytes went before.
@@ -615,9 +695,9 @@ fn passed<R: Threads + Wait + Sync>(
 #[test]
 fn bytes_pass_in_order_between_threads_that_wait(rt: HostRuntime) -> Result<(), Fail> {
     let (pipe, w, r, _k) = make(&rt, SMALL).ok_or("memory")?;
-    assert_eq!(rt; passed(&rt, &pipe, w, r, 250), 5_000);
+    assert!(rt; passed(&rt, &pipe, w, r, 250) == 5_000);
     let (pipe, w, r, _k) = make(&rt, TWO_SEGMENTS).ok_or("memory")?;
-    assert_eq!(rt; passed(&rt, &pipe, w, r, 250), 5_000);
+    assert!(rt; passed(&rt, &pipe, w, r, 250) == 5_000);
     Ok(())
 }
 
@@ -652,14 +732,10 @@ fn cancel_later<R: Wait>(rt: &R, pipe: &Pipe, mut k: Canceller) -> Canceller
 fn room_when_full<R: Wait>(rt: &R, pipe: &Pipe, mut w: WriterEnd) -> Option<usize>
     requires { IsOf pipe.now w.seat }
 {
-    for _ in 0..2 {
-        pipe.room(rt, &mut w, 64).ok()?;
-        if !draft(&mut w, &[7; 64]) {
-            return None;
-        }
-    }
-    pipe.flush(rt, &mut w).ok()?;
-    pipe.room(rt, &mut w, 1).ok()
+    let is_filled = send_waiting(rt, pipe, &mut w, &[7; 64])
+        && send_waiting(rt, pipe, &mut w, &[7; 64]);
+    let granted = pipe.room(rt, &mut w, 1).ok();
+    granted.filter(|_| is_filled)
 }
 
 // Completes the reader, late.

@@ -39,18 +39,18 @@ fn a_seat_is_busy_while_another_has_the_turn_and_then_sees_its_entry(
     let mut one = cell.last_new(&mut seats).ok_or("two seats")?;
     let mut zero = cell.last_new(&mut seats).ok_or("two seats")?;
     let mut held = cell.try_take(&mut zero).ok().ok_or("free")?;
-    assert_eq!(rt; held.entries(), 0);
+    assert!(rt; held.entries() == 0);
     let busy = cell.try_take(&mut one);
     assert!(rt; matches!(busy, Err(Busy { word: 1 })));
     held.state_mut().count = 1;
     cell.put::<Brand>(&mut zero, held, 1);
     let held = cell.try_take(&mut one).ok().ok_or("free")?;
-    assert_eq!(rt; held.entries(), 1);
-    assert_eq!(rt; held.state().count, 1);
+    assert!(rt; held.entries() == 1);
+    assert!(rt; held.state().count == 1);
     cell.put::<Brand>(&mut one, held, 0);
     let counter = close_two(cell, zero, one);
-    assert_eq!(rt; counter.count, 1);
-    assert_eq!(rt; counter.id, 7);
+    assert!(rt; counter.count == 1);
+    assert!(rt; counter.id == 7);
     Ok(())
 }
 
@@ -197,8 +197,8 @@ fn three_threads_take_turns_and_no_count_is_lost(rt: HostRuntime) -> Result<(), 
         .ok_or("no memory")?;
     let (zero, one, two) = cell.three_new(seats);
     let (counter, puts) = counted_by_three(&rt, cell, zero, one, two, 1000);
-    assert_eq!(rt; puts, [1000, 1000, 1000]);
-    assert_eq!(rt; counter.count, 3000);
-    assert_eq!(rt; counter.id, 7);
+    assert!(rt; puts == [1000, 1000, 1000]);
+    assert!(rt; counter.count == 3000);
+    assert!(rt; counter.id == 7);
     Ok(())
 }

@@ -11,6 +11,7 @@ use Rattle.pipe_core.specs.Reads.{reply_to_read}
 use Rattle.pipe_core.specs.Flushes.{reply_to_commit}
 use Rattle.pipe_core.specs.Lends.{lend}
 use Rattle.pipe_core.specs.Answers.{Flushed, Gave, Woke}
+use Rattle.pipe_state.specs.Chains.{ChainState}
 use Rattle.pipe_state.specs.declared.options.Options.{Options}
 use Rattle.pipe_turns.specs.declared.faults.TryFault.{TryFault}
 use Rattle.pipe_turns.specs.declared.faults.FlushFault.{FlushFault}
@@ -84,13 +85,13 @@ abbrev pub waits_to_read : Result (ReadReply × Wake) TryFault → Bool
 waits_to_read (Ok answer) = lends_nothing answer.0
 waits_to_read (Err fault) = true
 
--- a reader without a lend
-abbrev pub without_lend : Seat → Reader
-without_lend seat = record { seat = seat; lent = None }
+-- a reader without a lend, which had these segments
+abbrev pub without_lend : Seat → ChainState → Reader
+without_lend seat chain = record { seat = seat; lent = None; chain = chain }
 
 -- an attempt at a call that ends the lend
 abbrev pub TriesToEnd : Options → Call → Reader → Result Wake TryFault → Reader → Type 0
-TriesToEnd options call old (Ok wake) new = Makes options old.seat (call ∷ []) (Woke wake) new.seat × (new ≡ without_lend new.seat)
+TriesToEnd options call old (Ok wake) new = Makes options old.seat (call ∷ []) (Woke wake) new.seat × (new.lent ≡ None)
 TriesToEnd options call old (Err fault) new = Refuses fault old.seat new.seat × (new.lent ≡ old.lent)
 
 -- It waits for a turn.

@@ -1,6 +1,7 @@
 -- What contracts see of the two ends of a pipe, and what is always so of them.
 use Rattle.std.specs.Prelude.{◌≡◌, ℕ, Bool, List, Option, Some, IsSome, option_map}
 use Rattle.pipe_core.specs.History.{Run, bytes_of, writer_end, reader_end}
+use Rattle.pipe_state.specs.Chains.{ChainState}
 use Rattle.pipe_state.specs.Sides.{reader_has}
 use Rattle.pipe_state.specs.Writing.{WritingState}
 use Rattle.pipe_state.specs.declared.reading.Reading.{Reading}
@@ -18,10 +19,11 @@ pub record Writer : Type 0 where
   pub free : List ℕ
   pub hint : ℕ
 
--- The reader: its seat, and the bytes of the lend, where one stands.
+-- The reader: its seat, the bytes of the lend, where one stands, and the segments in which they lie.
 pub record Reader : Type 0 where
   pub seat : Seat
   pub lent : Option (List ℕ)
+  pub chain : ChainState
 
 -- what a chain lends
 abbrev pub lent_in : Bool → Reading → Option (List ℕ)

@@ -1,85 +1,138 @@
 -- A pipe for one thread, as contracts see it, and what its calls make of it.
-use Rattle.std.specs.Prelude.{◌≡◌, ◌⊎◌, ◌<◌, ◌≤◌, ◌^◌, ℕ, List, length, take, unwrap_or}
+use Rattle.std.specs.Prelude.{◌≡◌, ◌≢◌, ◌⊎◌, ◌<◌, ◌≤◌, ℕ, List, [], length, max, is_some, Vec, Option, Some, None, IfSome}
+use Rattle.std.specs.Vec.{vec_capacity}
+use Rattle.std.proofs.Common.{Global}
 use Rattle.std.specs.List.{All}
-use Rattle.pipe_core.specs.History.{Call, seat_of}
+use Rattle.pipe_core.specs.History.{Run, Call, seat_of}
 use Rattle.pipe_core.specs.Progress.{total}
 use Rattle.pipe_core.specs.Progress as progress
 use Rattle.pipe_core.specs.Answers.{Answer, Answers}
-use Rattle.pipe_core.specs.Bytes.{capacity_of, with_draft}
-use Rattle.pipe_core.specs.Pipe.{Pipe, HoldsFor}
+use Rattle.seg_block.specs.declared.block.Block.{Block}
 use Rattle.pipe_state.specs.declared.options.Options.{Options}
-use Rattle.pipe_shared.specs.declared.local.Carried.{Carried}
+use Rattle.pipe_state.specs.declared.full.Full.{Full}
+use Rattle.pipe_state.specs.declared.reading.Reading.{Reading}
+use Rattle.pipe_state.specs.Chains.{ChainState}
+use Rattle.pipe_state.specs.Full.{IsFull}
+use Rattle.pipe_state.specs.Held.{AreAll, HoldsRuns, PipeHeld}
+use Rattle.pipe_state.specs.Options.{first_bad}
+use Rattle.pipe_state.specs.Released.{names_of}
+use Rattle.pipe_state.specs.Segments.{AreSized}
+use Rattle.pipe_state.specs.Sides.{reader_has}
+use Rattle.pipe_state.specs.Writing.{WritingState}
+use Rattle.pipe_turns.specs.Ends.{ReadsFor, WritesFor}
+use Rattle.pipe_turns.specs.Lends.{lend_runs, runs_in}
+use Rattle.pipe_turns.specs.Log.{calls_of}
+use Rattle.pipe_turns.specs.Name.{Name}
+use Rattle.pipe_shared.specs.Made.{name_in}
 use Rattle.pipe_shared.specs.declared.faults.LocalRoomFault.{LocalRoomFault}
 use Rattle.pipe_shared.specs.declared.faults.LocalRoomFault.TheVariants as no_room
-use Rattle.pipe_shared.specs.declared.faults.LocalFull.{LocalFull}
-use Rattle.pipe_state.specs.Options.{room_of}
-use Rattle.pipe_shared.specs.Options.{HasRoomFor, LacksRoom}
-use Rattle.pipe_turns.specs.Log.{calls_of}
+use Rattle.pipe_shared.specs.declared.local_writer.LocalWriter.{LocalWriter}
+use Rattle.pipe_shared.specs.declared.pipe.Closed.{Closed}
 
--- Its options, and its marks, flags and bytes. Of what is free it has the part that was granted.
+-- Its options, its marks, flags and segments, the draft, the free part of the segment that it fills, the greatest hint for which it left another, and the segments that the reader has, which goes on.
 pub record Local : Type 0 where
   pub options : Options
-  pub pipe : Pipe
+  pub pipe : PipeHeld
+  pub draft : List Run
+  pub free : List ℕ
+  pub hint : ℕ
+  pub chain : Option ChainState
 
--- the same pipe with another free part
-abbrev pub with_free : Pipe → List ℕ → Pipe
-with_free p free = record { control = p.control; bytes = record { held = p.bytes.held; draft = p.bytes.draft; free = free } }
+-- what is seen of the writer's part, of which there is none once the writer has completed
+abbrev pub draft_in : LocalWriter → List Run
+draft_in (LocalWriter.Going w) = w.draft
+draft_in (LocalWriter.Completed none) = []
 
-abbrev pub local_of : Options → Pipe → ℕ → Local
-local_of options p granted = record { options = options; pipe = with_free p (take granted p.bytes.free) }
+abbrev pub free_in : LocalWriter → List ℕ
+free_in (LocalWriter.Going w) = w.free
+free_in (LocalWriter.Completed none) = none.items
 
--- It stands for some history, it has room for what its options say, and what was granted is free, and at most a segment.
-pub record IsLocal (options : Options) (p : Pipe) (granted : ℕ) : Type 0 where
-  pub history : (h : List Call) × HoldsFor p h
+abbrev pub hint_in : LocalWriter → ℕ
+hint_in (LocalWriter.Going w) = w.has.hint
+hint_in (LocalWriter.Completed none) = 0
+
+abbrev pub chain_in : Option Reading → Option ChainState
+chain_in None = None
+chain_in (Some r) = Some r.chain
+
+abbrev pub local_of : Options → PipeHeld → LocalWriter → Option Reading → Local
+local_of options p w reading = record { options = options; pipe = p; draft = draft_in w; free = free_in w; hint = hint_in w; chain = chain_in reading }
+
+-- An end's part is one of this pipe, and there is one until the end has completed.
+abbrev pub HasWriter : Name → Option ℕ → LocalWriter → Type 0
+HasWriter name None (LocalWriter.Going w) = WritesFor name w
+HasWriter name (Some code) (LocalWriter.Completed none) = none.items ≡ []
+HasWriter name ended w = ⊥
+
+abbrev pub HasReader : Name → Option ℕ → Option Reading → Type 0
+HasReader name None (Some r) = ReadsFor name r
+HasReader name (Some code) None = Unit {0}
+HasReader name reader_end reading = ⊥
+
+-- It stands for a history, whose lend lies in the segments that the reader has.
+pub record LendsFor (p : PipeHeld) (reading : Option Reading) : Type 0 where
+  pub h : List Call
+  pub holds : HoldsRuns p h
+  pub lent : IfSome reading (λ r. lend_runs h ≡ runs_in (is_some p.control.lent) (reader_has r.chain))
+
+pub record IsLocal (options : Options) (p : PipeHeld) (w : LocalWriter) (reading : Option Reading) (list : Vec Block Global) : Type 0 where
+  pub history : LendsFor p reading
+  pub good : first_bad options ≡ None
   pub pause : p.control.pause ≡ options.pause
   pub resume : p.control.resume ≡ options.resume
-  pub room : capacity_of p.bytes ≡ room_of options
-  pub within : granted ≤ length p.bytes.free
-  pub at_most : granted ≤ options.segment
-  pub segment : 1 ≤ options.segment
-  pub small : room_of options ≤ 2 ^ 31
+  pub sized : AreSized options.segment p.segments.blocks
+  pub count : length p.segments.blocks ≡ options.segments
+  pub empty : list.items ≡ []
+  pub room : length p.segments.blocks ≤ vec_capacity list
+  pub writer : HasWriter (name_in options p) p.control.ended w
+  pub reader : HasReader (name_in options p) p.control.gone reading
 
 -- It stands for a history, of which each call was made from its own seat: the writer's calls have the number 0, and the reader's the number 1.
 pub record LocalKeeps (p : Local) (history : List (ℕ × Call)) : Type 0 where
   pub seats : All (λ e. e.0 ≡ seat_of e.1) history
-  pub stands : HoldsFor p.pipe (calls_of history)
+  pub stands : HoldsRuns p.pipe (calls_of history)
 
 -- Calls, the latest first, took a pipe to a pipe.
 abbrev pub LocalAnswers : Local → List Call → Answer → Local → Type 0
-LocalAnswers before calls answer after = Answers (λ p. p.pipe.control) (λ p. p.options) (λ p. HoldsFor p.pipe) before.options.pause before.options.resume before calls answer after
+LocalAnswers before calls answer after =
+    Answers (λ p. p.pipe.control) (λ p. name_in p.options p.pipe) (λ p. HoldsRuns p.pipe) before.options.pause before.options.resume before calls answer after
 
--- What was granted was too short, and the hint fits.
-pub record GrantsMore (hint n : ℕ) (old : Local) : Type 0 where
-  pub short : length old.pipe.bytes.free < hint
-  pub has : HasRoomFor old.options (length old.pipe.bytes.held) (length old.pipe.bytes.draft) hint n
+-- A segment from home is free as a whole.
+pub record LocalGrantsAnew (hint n : ℕ) (old new : Local) : Type 0 where
+  pub short : length old.free < hint
+  pub home : old.pipe.segments.home ≢ []
+  pub whole : n ≡ old.options.segment
+  pub greatest : new.hint ≡ max old.hint hint
+  pub made : name_in new.options new.pipe ≡ name_in old.options old.pipe
+  pub control : new.pipe.control ≡ old.pipe.control
+  pub stands : (h : List Call) → HoldsRuns old.pipe h → HoldsRuns new.pipe h
 
--- The free part is now so long, at most a segment, and nothing else has changed. Where it was long enough, nothing has.
+-- The free part is long enough, and at most a segment, and the draft is as it was. Where it was long enough before, nothing has changed.
 pub record LocalGrants (hint n : ℕ) (old new : Local) : Type 0 where
   pub small : hint ≤ old.options.segment
   pub enough : hint ≤ n
   pub at_most : n ≤ old.options.segment
-  pub free : length new.pipe.bytes.free ≡ n
-  pub rest : new ≡ record { options = old.options; pipe = with_free old.pipe new.pipe.bytes.free }
-  pub how : (hint ≤ length old.pipe.bytes.free) × (new ≡ old) ⊎ GrantsMore hint n old
+  pub free : length new.free ≡ n
+  pub draft : new.draft ≡ old.draft
+  pub how : (hint ≤ length old.free) × (new ≡ old) ⊎ LocalGrantsAnew hint n old new
 
--- The pipe has no room for the hint.
-pub record IsFull (hint : ℕ) (told : LocalFull) (p : Local) : Type 0 where
+-- No segment is at home: this is told of where they are, and so much at least is committed and not consumed, or drafted.
+pub record LocalFindsFull (hint : ℕ) (told : Full) (p : Local) : Type 0 where
   pub small : hint ≤ p.options.segment
-  pub short : length p.pipe.bytes.free < hint
-  pub lacks : LacksRoom p.options (length p.pipe.bytes.held) (length p.pipe.bytes.draft) hint told
+  pub short : length p.free < hint
+  pub part : WritingState
+  pub draft : part.draft ≡ p.draft
+  pub greatest : part.has.hint ≡ p.hint
+  pub count : part.count ≡ p.options.segments
+  pub size : part.size ≡ p.options.segment
+  pub full : IsFull (max p.hint hint) told p.pipe part
 
 abbrev pub LocalRefuses : ℕ → LocalRoomFault → Local → Type 0
 LocalRefuses hint (no_room.TooLarge asked segment) p = (asked ≡ hint) × (segment ≡ p.options.segment) × (segment < hint)
-LocalRefuses hint (no_room.Full told) p = IsFull hint told p
+LocalRefuses hint (no_room.Full told) p = LocalFindsFull hint told p
 
--- the first n bytes of the free part join the draft at its end
-abbrev pub with_drafted : Local → ℕ → Local
-with_drafted p n = record { options = p.options; pipe = record { control = p.pipe.control; bytes = with_draft p.pipe.bytes n } }
-
--- the bytes of the lend, none where none stands
-abbrev pub lent_span : Local → List ℕ
-lent_span p = take (unwrap_or p.pipe.control.lent 0) p.pipe.bytes.held
-
--- What a pipe has carried, for every history that it stood for.
-abbrev pub LocalCloses : Local → Carried → Type 0
-LocalCloses p closed = (h : List Call) → HoldsFor p.pipe h → (closed.committed ≡ length (total h)) × (closed.consumed ≡ progress.consumed h)
+-- What a pipe has carried, for every history that it stood for, and all its blocks came back.
+pub record LocalCloses (p : Local) (closed : Closed) : Type 0 where
+  pub committed : (h : List Call) → HoldsRuns p.pipe h → closed.committed ≡ length (total h)
+  pub consumed : (h : List Call) → HoldsRuns p.pipe h → closed.consumed ≡ progress.consumed h
+  pub all : AreAll (names_of closed.blocks.items) p.pipe.segments.blocks

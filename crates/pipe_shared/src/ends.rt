@@ -2,12 +2,17 @@
 
 ghost use Rattle.std.specs.Prelude.{◌≡◌, ◌≤◌, ◌++◌, length, take, drop, true, is_some, Some, IsSome};
 ghost use Rattle.std.specs.Borrow.{sem};
-ghost use Rattle.span_seq.specs.Sequence.{bytes};
+ghost use Rattle.span_seq.specs.Sequence.{bytes, part};
+ghost use Rattle.span_seq.specs.Spans.{whole_of};
 ghost use Rattle.pipe_core.specs.History.{bytes_of};
 ghost use Rattle.pipe_core.specs.Lends.{lend};
+ghost use Rattle.pipe_state.specs.Chains.{spans_of};
+ghost use Rattle.pipe_state.specs.Fetched.{all_fetched};
+ghost use Rattle.pipe_state.specs.Segments.{AreOf};
 ghost use Rattle.pipe_state.specs.Sides.{reader_has};
 ghost use Rattle.pipe_turns.specs.Log.{calls_of};
 ghost use Rattle.pipe_turns.specs.Lends.{lend_runs, runs_in};
+ghost use Rattle.pipe_turns.specs.Name.{Name};
 ghost use Rattle.pipe_shared.specs.Lending.{LendsSpare};
 
 use crossbeam_utils::sync::Parker;
@@ -80,7 +85,7 @@ impl Model for ReaderEnd {
 
     ghost Value = { Reader };
 
-    ghost view = { λ r. record { seat = r.seat; lent = lent_in r.lending r.part } };
+    ghost view = { λ r. record { seat = r.seat; lent = lent_in r.lending r.part; chain = r.part.chain } };
 
     ghost invariant = { λ r. IsReader r.seat r.part r.lending };
 }
@@ -99,14 +104,17 @@ impl ReaderEnd {
         requires { IsSome self.now.lent }
         ensures lent { self.now.lent ≡ Some (bytes result) }
         ensures bytes { lend (calls_of self.now.seat.seen) ≡ Some (bytes result) }
+        ensures whole { part result ≡ whole_of (spans_of self.now.chain.skip (all_fetched self.now.chain.links)) }
     {
         self.part.chain.whole()
     }
 
-    /// The segments in which these bytes lie: span by span, those of `lent`.
+    /// The segments in which these bytes lie: span by span, those of `lent`. They are of the pipe's blocks.
     pub fn chain(&self) -> &Chain
         requires { IsSome self.now.lent }
-        ensures { lend_runs (calls_of self.now.seat.seen) ≡ runs_in true (reader_has result.now) }
+        ensures chain { result.now ≡ self.now.chain }
+        ensures runs { lend_runs (calls_of self.now.seat.seen) ≡ runs_in true (reader_has self.now.chain) }
+        ensures blocks { (name : Name) → self.now.seat.name ≡ Some name → AreOf name.blocks (all_fetched self.now.chain.links) }
     {
         &self.part.chain
     }

@@ -2,17 +2,6 @@
 
 use pipe_state::Full;
 
-/// What fills a pipe for one thread that has no room for a hint, in bytes.
-#[derive(Clone, Copy, Debug, PartialEq, Eq)]
-pub struct LocalFull {
-    /// How many are committed and not consumed: none once the reader has completed.
-    pub held: usize,
-    /// How many are drafted.
-    pub draft: usize,
-    /// For how many the pipe has room.
-    pub capacity: usize,
-}
-
 /// Why no room was granted. TooLarge comes before Busy, and Busy before Full.
 #[derive(Clone, Copy, Debug, PartialEq, Eq)]
 pub enum RoomFault {
@@ -29,6 +18,6 @@ pub enum RoomFault {
 pub enum LocalRoomFault {
     /// As `RoomFault::TooLarge`.
     TooLarge { hint: usize, segment: usize },
-    /// The pipe has no room for the hint.
-    Full(LocalFull),
+    /// No segment is at home.
+    Full(Full),
 }

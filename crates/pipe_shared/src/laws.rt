@@ -6,7 +6,7 @@ ghost use Rattle.turn_cell.specs.History.{made_by};
 ghost use Rattle.pipe_core.specs.History.{Call, seat_of};
 ghost use Rattle.pipe_core.specs.Answers.{Answer};
 ghost use Rattle.pipe_core.specs.Lends.{lend};
-ghost use Rattle.pipe_core.specs.Pipe.{HoldsFor};
+ghost use Rattle.pipe_state.specs.Held.{HoldsRuns};
 ghost use Rattle.pipe_turns.specs.declared.faults.TryFault.{TryFault};
 ghost use Rattle.pipe_state.specs.declared.options.Options.{Options};
 ghost use Rattle.pipe_turns.specs.Log.{calls_of};
@@ -30,7 +30,7 @@ pub fn segments_have_a_byte(pipe: &Pipe)
 pub fn local_segments_have_a_byte(pipe: &LocalPipe)
     ensures { 1 ≤ pipe.now.options.segment }
 {
-    let _ = &pipe.plain;
+    let _ = &pipe.options;
 }
 
 /// A writer has the seat 0, and what it has made stands in what it has seen, which is lawful.
@@ -78,9 +78,9 @@ pub fn canceller_has_its_seat(canceller: &Canceller)
 
 /// A pipe for one thread stands for some history, so what is said of it "for every history" is never empty.
 pub fn local_pipe_has_a_history(pipe: &LocalPipe)
-    ensures { (h : List Call) × HoldsFor pipe.now.pipe h }
+    ensures { (h : List Call) × HoldsRuns pipe.now.pipe h }
 {
-    let _ = &pipe.plain;
+    let _ = &pipe.options;
 }
 
 /// Calls of a pipe for one thread stand in its history with the number of the seat that made them.

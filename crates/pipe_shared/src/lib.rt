@@ -7,8 +7,10 @@ mod ends;
 mod faults;
 mod laws;
 mod local;
+mod local_writer;
 mod options;
 mod parking;
+mod parts;
 mod pipe;
 mod reading;
 mod waiting;
@@ -17,14 +19,14 @@ mod writing;
 pub use ends::{
     Canceller, ReaderDone, ReaderEnd, ReaderRefused, WriterDone, WriterEnd, WriterRefused,
 };
-pub use faults::{LocalFull, LocalRoomFault, RoomFault};
+pub use faults::{LocalRoomFault, RoomFault};
 pub use laws::{
     canceller_has_its_seat, done_reader_has_its_seat, done_writer_has_its_seat,
     local_history_grows, local_pipe_has_a_history, local_segments_have_a_byte,
     others_are_heard_first, reader_has_its_seat, reader_is_lent_what_it_has_seen,
     segments_have_a_byte, writer_has_its_seat,
 };
-pub use local::{Carried, LocalPipe};
+pub use local::LocalPipe;
 pub use options::{MakeError, MakeRefused};
 pub use parking::Attempts;
 pub use pipe::{Closed, Made, Pipe};

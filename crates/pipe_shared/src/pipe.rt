@@ -8,13 +8,14 @@ ghost use Rattle.pipe_state.specs.Released.{names_of};
 ghost use Rattle.pipe_state.specs.Segments.{AreSized};
 ghost use Rattle.pipe_state.specs.Lying.{HaveOwnIds};
 ghost use Rattle.pipe_turns.specs.Ends.{ReadsFor, WritesFor};
-ghost use Rattle.pipe_shared.specs.Made.{IsBuilt, RefusesOptions, ClosesPipe};
+ghost use Rattle.pipe_shared.specs.Made.{IsBuilt, RefusesOptions, ClosesPipe, no_chain};
 
 use crate::ends::{Canceller, ReaderDone, ReaderEnd, WriterDone, WriterEnd};
 use crate::options::{MakeError, MakeRefused};
+use crate::parts::{Parts, blocks_of};
 use crossbeam_utils::sync::{Parker, Unparker};
 use pipe_core::Wake;
-use pipe_state::{Chain, Options, PipeState, Reading, Writing};
+use pipe_state::{Options, Reading, Writing};
 use pipe_turns::SharedPipe;
 use seg_block::Block;
 use std::alloc::{AllocError, Global};
@@ -95,7 +96,7 @@ impl Pipe {
         ensures blocks { IfOk result (λ made. made.0.name.blocks ≡ names_of blocks.items) }
         ensures seats { IfOk result (λ made. made.0.seats ≡ 3) }
         ensures writer { IfOk result (λ made. made.1 ≡ record { seat = new_seat made.0 0; draft = []; free = []; hint = 0 }) }
-        ensures reader { IfOk result (λ made. made.2 ≡ record { seat = new_seat made.0 1; lent = None }) }
+        ensures reader { IfOk result (λ made. made.2 ≡ record { seat = new_seat made.0 1; lent = None; chain = no_chain made.0.name.options.segments }) }
         ensures canceller { IfOk result (λ made. made.3 ≡ new_seat made.0 2) }
     {
         if let Some((field, number)) = options.first_bad() {
@@ -181,26 +182,16 @@ fn build(alloc: Global, options: Options, blocks: Vec<Block>) -> Result<Built, V
     ensures back { IfErr result (λ back. names_of back.items ≡ names_of blocks.items) }
     ensures built { IfOk result (λ built. IsBuilt options (names_of blocks.items) built) }
 {
-    let mut blocks = blocks;
-    let Ok(chain) = Chain::make(alloc, options.segments) else {
-        return Err(blocks);
-    };
-    let made = PipeState::make(alloc, &mut blocks, options.pause, options.resume);
-    let Ok((pipe, reader, writer)) = made else {
-        return Err(blocks);
-    };
-    let reading = Reading {
-        chain,
-        half: reader,
-    };
-    let Ok(writing) = Writing::make(alloc, options.segments, options.segment, writer) else {
-        pipe.into_blocks(&mut blocks);
-        return Err(blocks);
-    };
+    let Parts {
+        pipe,
+        writing,
+        reading,
+        list,
+    } = Parts::make(alloc, options, blocks)?;
     let state = SharedPipe {
         pipe,
         options,
-        list: blocks,
+        list,
     };
     match TurnCell::make(alloc, state, 3) {
         Ok((cell, seats)) => {
@@ -214,20 +205,11 @@ fn build(alloc: Global, options: Options, blocks: Vec<Block>) -> Result<Built, V
                 reading,
             })
         }
-        Err(refused) => Err(blocks_of(refused.state)),
+        Err(refused) => {
+            let SharedPipe { pipe, list, .. } = refused.state;
+            Err(blocks_of(pipe, list))
+        }
     }
-}
-
-// The blocks of a state whose segments are at home.
-fn blocks_of(state: SharedPipe) -> Vec<Block>
-    requires empty { state.list.items ≡ [] }
-    requires room { length state.pipe.segments.home ≤ vec_capacity state.list }
-    ensures { names_of result.items ≡ state.pipe.segments.home }
-{
-    let SharedPipe { pipe, list, .. } = state;
-    let mut blocks = list;
-    pipe.into_blocks(&mut blocks);
-    blocks
 }
 
 // The pipe and its ends, of what was built.
@@ -236,7 +218,7 @@ fn put_together(options: Options, built: Built, parking: Parking) -> Made
     requires built { IsBuilt options built.cell.name.blocks built }
     ensures pipe { result.0 ≡ built.cell }
     ensures writer { result.1 ≡ record { seat = new_seat built.cell 0; draft = []; free = []; hint = 0 } }
-    ensures reader { result.2 ≡ record { seat = new_seat built.cell 1; lent = None } }
+    ensures reader { result.2 ≡ record { seat = new_seat built.cell 1; lent = None; chain = no_chain built.cell.name.options.segments } }
     ensures canceller { result.3 ≡ new_seat built.cell 2 }
 {
     let Built {

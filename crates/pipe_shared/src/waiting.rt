@@ -197,7 +197,7 @@ impl Pipe {
     pub fn complete_reader<R: Wait>(&self, rt: &R, r: ReaderEnd, code: u32) -> ReaderDone
         requires { IsOf self.now r.seat }
         ensures pipe { IsIdle self.now result }
-        ensures at_last { (wake : Wake) × AtLast (TriesToEnd self.now.name.options (EndReader code)) waits_for_turn r (Ok wake) (without_lend result) }
+        ensures at_last { (wake : Wake) × AtLast (TriesToEnd self.now.name.options (EndReader code)) waits_for_turn r (Ok wake) (without_lend result r.chain) }
         ensures made { CallsOnce r.seat (EndReader code ∷ []) result }
     {
         let attempts = Attempts::new();

@@ -15,3 +15,4 @@ pub mod HeldLemmas
 pub mod BlockLemmas
 pub mod RunLemmas
 pub mod FullLemmas
+pub mod AmongLemmas

@@ -94,6 +94,14 @@ with_one f writer = record writer { segments = unfinished_of f ∷ [] }
 abbrev pub with_next : FillingState → ℕ → WriterHas → WriterHas
 with_next f hint writer = record { segments = writer.segments ++ unfinished_of f ∷ []; hint = max writer.hint hint }
 
+-- It is one of these blocks: whatever weight a block has, they weigh no less.
+abbrev pub IsOneOf : BlockName → List BlockName → Type 0
+IsOneOf block blocks = (weight : BlockName → ℕ) → weight block ≤ weigh weight blocks
+
+-- the segments lie in these blocks
+abbrev pub AreOf : List BlockName → List Fetched → Type 0
+AreOf blocks segments = AllByRecursion (λ s. IsOneOf (block_in s.label) blocks) segments
+
 -- each block has so many bytes
 abbrev pub AreSized : ℕ → List BlockName → Type 0
 AreSized size blocks = AllByRecursion (λ (b : BlockName). b.size ≡ size) blocks

@@ -7,7 +7,7 @@ ghost use Rattle.pipe_state.specs.Fetched.{all_fetched};
 ghost use Rattle.pipe_state.specs.Released.{block_in, bytes_in, names_of};
 ghost use Rattle.pipe_state.specs.Sending.{committed_in, with_committed};
 ghost use Rattle.pipe_state.specs.Sides.{reader_has, unfinished_of};
-ghost use Rattle.pipe_state.specs.Segments.{AreInOrder, Releases, Starts, all_home, reads_none, sent_in, with_next, with_one, without_first, writes_none};
+ghost use Rattle.pipe_state.specs.Segments.{AreInOrder, AreOf, Releases, Starts, all_home, reads_none, sent_in, with_next, with_one, without_first, writes_none};
 
 use crate::chain::Chain;
 use crate::filling::Filling;
@@ -135,6 +135,14 @@ impl Segments {
     #[inline]
     pub fn order(&self)
         ensures { AreInOrder self.now.home self.now.live self.now.writer.segments self.now.blocks }
+    {
+        let _ = &self.home;
+    }
+
+    /// The segments that the reader has lie in the pipe's blocks. It does nothing at run time.
+    #[inline]
+    pub fn reader_blocks(&self)
+        ensures { AreOf self.now.blocks self.now.reader.segments }
     {
         let _ = &self.home;
     }

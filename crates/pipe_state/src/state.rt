@@ -6,7 +6,7 @@ ghost use Rattle.pipe_core.specs.History.{Call, Commit, EndWriter, EndReader, Re
 ghost use Rattle.pipe_core.specs.Answers.{Flushed, Gave, Woke};
 ghost use Rattle.pipe_core.specs.Standing.{AreThresholds, MayAdvance};
 ghost use Rattle.pipe_state.specs.Released.{BlockName, bytes_in, names_of};
-ghost use Rattle.pipe_state.specs.Segments.{AreSized, all_home, reads_none, writes_none};
+ghost use Rattle.pipe_state.specs.Segments.{AreOf, AreSized, all_home, reads_none, writes_none};
 ghost use Rattle.pipe_state.specs.Lying.{HaveOwnIds};
 ghost use Rattle.pipe_state.specs.Sides.{reader_has};
 ghost use Rattle.pipe_state.specs.Full.{IsFull};
@@ -195,11 +195,13 @@ impl PipeState {
         ensures answers { HeldAnswers self.old (Read n ∷ []) (Gave result.0 result.1) self.new }
         ensures chain { reader_has reading.new.chain ≡ self.new.segments.reader }
         ensures fetched { self.new.segments.reader.segments ≡ self.new.segments.live }
+        ensures blocks { AreOf self.new.segments.blocks self.new.segments.reader.segments }
         ensures pair { reading.new.half.name ≡ self.new.segments.reader_name }
         ensures capacity { reading.new.chain.capacity ≡ reading.old.chain.capacity }
     {
         let answer = self.control.read_at_least(n);
         self.segments.fetch(reading);
+        self.segments.reader_blocks();
         answer
     }
 
@@ -209,6 +211,7 @@ impl PipeState {
         requires pair { reading.old.half.name ≡ self.old.segments.reader_name }
         requires lent { MayAdvance self.old.control.lent c e }
         ensures answers { HeldAnswers self.old (Advance c e ∷ []) (Woke result) self.new }
+        ensures blocks { AreOf self.new.segments.blocks self.new.segments.reader.segments }
         ensures chain { reader_has reading.new.chain ≡ self.new.segments.reader }
         ensures pair { reading.new.half.name ≡ self.new.segments.reader_name }
         ensures capacity { reading.new.chain.capacity ≡ reading.old.chain.capacity }
@@ -216,6 +219,7 @@ impl PipeState {
         let wake = self.control.advance(c, e);
         self.segments.agree_reader(reading);
         self.segments.release(c as usize, reading);
+        self.segments.reader_blocks();
         wake
     }
 

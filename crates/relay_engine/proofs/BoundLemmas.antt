@@ -4,14 +4,14 @@ use Rattle.std.specs.Prelude.{is_none}
 use Rattle.std.proofs.lemmas.List.{length-append, length-drop}
 use mathlib.Core.List.{IsPrefix}
 use Rattle.frame_model.specs.declared.framing.Framing.{Framing}
-use Rattle.frame_model.specs.declared.framing.Framing.TheVariants.{Len4, Len2, Line}
 use Rattle.frame_grammar.specs.declared.job.Job.{Job}
+use Rattle.frame_model.specs.Heads.{Layout, Counted, Lines, layout}
 use Rattle.frame_model.specs.Spelling.{head_of, obstacle, spelling, tail_of, text}
-use Rattle.frame_model.specs.Cut.{Cutting, Front, Whole, Refused, Partial, cut, front, last_line}
+use Rattle.frame_model.specs.Cut.{Cutting, Front, Whole, Refused, Partial, cut, front, last_line, last_line_in}
 use Rattle.frame_model.specs.Translation.{spellable}
 use Rattle.frame_grammar.specs.Job.{translation}
 use Rattle.frame_model.proofs.CutLemmas.{cut_partial, cut_refused, cut_whole}
-use Rattle.frame_model.proofs.FrameLemmas.{frame_at, spelling_len}
+use Rattle.frame_model.proofs.FrameLemmas.{around, frame_at, spelling_len}
 use Rattle.frame_model.proofs.FrontLemmas.{front_shorter}
 use Rattle.relay_model.specs.Run.{payloads_of}
 use Rattle.relay_engine.specs.Frames.{Passes}
@@ -21,17 +21,14 @@ use Rattle.relay_engine.proofs.FrameLemmas.{may_stop}
 abbrev AreBounded : Framing → List (List ℕ) → List ℕ → Type 0
 AreBounded output payloads x = (length payloads ≤ length x) × (length (text output payloads) ≤ 5 * length x)
 
-around : (f : Framing) (n : ℕ) → length (head_of f n) + length (tail_of f) ≤ 4
-around Len4 n = omega arith
-around Len2 n = omega arith
-around Line n = omega arith
+last_bounded_in : (l : Layout) (output : Framing) (at_end : Bool) (x : List ℕ) → AreBounded output (last_line_in l Partial at_end x) x
+last_bounded_in Lines output true (b ∷ rest) = let few = around output (length (b ∷ rest)) in (omega arith, omega (arith, spelling_len output (b ∷ rest), few.1, length-append (spelling output (b ∷ rest)) []))
+last_bounded_in Lines output true [] = (omega arith, omega arith)
+last_bounded_in Lines output false x = (omega arith, omega arith)
+last_bounded_in (Counted heads) output at_end x = (omega arith, omega arith)
 
 last_bounded : (f output : Framing) (at_end : Bool) (x : List ℕ) → AreBounded output (last_line f Partial at_end x) x
-last_bounded Line output true (b ∷ rest) = (omega arith, omega (arith, spelling_len output (b ∷ rest), around output (length (b ∷ rest)), length-append (spelling output (b ∷ rest)) []))
-last_bounded Line output true [] = (omega arith, omega arith)
-last_bounded Line output false x = (omega arith, omega arith)
-last_bounded Len4 output at_end x = (omega arith, omega arith)
-last_bounded Len2 output at_end x = (omega arith, omega arith)
+last_bounded f = last_bounded_in (layout f)
 
 by_front : (input output : Framing) (max : ℕ) (x : List ℕ) (at_end : Bool) → ((p more : List ℕ) → front input max x ≡ Whole p more → AreBounded output (cut input max more at_end).payloads more) → (b : Front) → front input max x ≡ b → AreBounded output (cut input max x at_end).payloads x
 by_front input output max x at_end behind (Refused kind) is = subst (λ (c : Cutting). AreBounded output c.payloads x) (sym (cut_refused input max x kind at_end is)) (omega arith, omega arith)
@@ -39,10 +36,11 @@ by_front input output max x at_end behind Partial is = subst (λ (c : Cutting). 
 by_front input output max x at_end behind (Whole p more) is =
     let lies = frame_at input max x p more is in
     let rest = behind p more is in
+    let few = around output (length p) in
     let size : length more ≡ length x - (length (head_of input (length p)) + length p + length (tail_of input)) = sym (ap length lies.rest) ∙ length-drop (length (head_of input (length p)) + length p + length (tail_of input)) x in
     subst (λ (c : Cutting). AreBounded output c.payloads x) (sym (cut_whole input max x p more at_end is)) (
       omega (arith, rest.0, front_shorter input max x p more is),
-      omega (arith, rest.1, size, lies.fits, lies.some, spelling_len output p, around output (length p), length-append (spelling output p) (text output (cut input max more at_end).payloads)),
+      omega (arith, rest.1, size, lies.fits, lies.some, spelling_len output p, few.1, length-append (spelling output p) (text output (cut input max more at_end).payloads)),
     )
 
 cut_bounded : (most : ℕ) (input output : Framing) (max : ℕ) (x : List ℕ) (at_end : Bool) → length x ≤ most → AreBounded output (cut input max x at_end).payloads x

@@ -2,7 +2,6 @@
 use Rattle.std.proofs.Common.{◌≡◌, ◌<◌, ◌≤◌, ◌+◌, ◌-◌, ℕ, zero, suc, Bool, true, false, List, [], ◌∷◌, ◌++◌, length, take, drop, refl, sym, ap, ◌∙◌, append-nil, append_assoc, arith, inl, inr}
 use Rattle.std.specs.Prelude.{nat_eq, Some, None}
 use Rattle.std.specs.List.{starts_with}
-use Rattle.std.specs.Int.{w16, w32, to_be_bytes}
 use Rattle.std.proofs.lemmas.Bool.{cases_lt}
 use Rattle.std.proofs.lemmas.Bool.Decides.{Decides-eqb}
 use Rattle.std.proofs.lemmas.Slice.Eq.{starts_is}
@@ -11,14 +10,15 @@ use Rattle.std.proofs.lemmas.List.{length-append, take-append-le, take_all}
 use Rattle.std.proofs.Math.Seq.{take-append-add, take-append_seam}
 use mathlib.Core.List.{IsPrefix}
 use Rattle.frame_model.specs.declared.framing.Framing.{Framing}
-use Rattle.frame_model.specs.declared.framing.Framing.TheVariants.{Len4, Len2, Line}
 use Rattle.frame_grammar.specs.declared.job.Job.{Job}
 use Rattle.frame_model.specs.Spelling.{obstacle, spelling, text}
-use Rattle.frame_model.specs.Cut.{Front, Whole, Refused, Partial, front, frames, last_line}
+use Rattle.frame_model.specs.Cut.{front, frames, last_line}
 use Rattle.frame_model.specs.Translation.{spellable}
 use Rattle.frame_grammar.specs.Job.{translation}
 use Rattle.relay_model.specs.Ending.{frames_written}
+use Rattle.frame_model.proofs.FrameLemmas.{spelling_some}
 use Rattle.frame_model.proofs.FramesLemmas.{continues}
+use Rattle.frame_model.proofs.TranslationLemmas.{no_last}
 use Rattle.relay_model.specs.Run.{frames_in, payloads_of}
 
 -- a text stands at the front of what begins with it
@@ -76,12 +76,6 @@ frames_before output payloads others next part short =
 
 -- ---- in a longer input
 
--- a frame has a byte
-some_byte : (output : Framing) (p : List ℕ) → 0 < length (spelling output p)
-some_byte Len4 p = omega (arith, length-append (to_be_bytes w32 (length p)) (p ++ []))
-some_byte Len2 p = omega (arith, length-append (to_be_bytes w16 (length p)) (p ++ []))
-some_byte Line p = omega (arith, length-append p (10 ∷ []))
-
 -- the payloads of more that can be spelt begin with those of less
 spellable_more : (output : Framing) (ps qs : List (List ℕ)) → (more : List (List ℕ)) × (spellable output (ps ++ qs) ≡ spellable output ps ++ more)
 spellable_more output [] qs = (spellable output qs, refl)
@@ -92,14 +86,6 @@ spellable_more output (p ∷ ps) qs =
           rw e (rest.0, ap (λ (x : List (List ℕ)). p ∷ x) rest.1)
       | Some at ↦ λ e. rw e ([], refl)
     ]) refl
-
--- while more may come there is no last line
-no_last : (f : Framing) (v : Front) (rest : List ℕ) → last_line f v false rest ≡ []
-no_last Len4 v rest = refl
-no_last Len2 v rest = refl
-no_last Line (Whole p more) rest = refl
-no_last Line (Refused kind) rest = refl
-no_last Line Partial rest = refl
 
 payloads_more : (job : Job) (x z : List ℕ) (b : Bool) → (more : List (List ℕ)) × (payloads_of job (x ++ z) b ≡ payloads_of job x false ++ more)
 payloads_more job x z b =
@@ -121,7 +107,7 @@ frames_of_front output ps more written is_front = down (length (ps ++ more)) (om
         ap (λ (i : ℕ). take i (ps ++ q ∷ others)) at ∙ take-append-add ps (q ∷ others) (suc k) in
         let parts : text output (take m (ps ++ q ∷ others)) ≡ text output ps ++ (spelling output q ++ text output (take k others)) =
         ap (λ (xs : List (List ℕ)). text output xs) front_is ∙ flat_map-append (spelling output) ps (q ∷ take k others) in
-        omega (arith, some_byte output q, ap length is_front.1, length-append written is_front.0, ap length parts, length-append (text output ps) (spelling output q ++ text output (take k others)), length-append (spelling output q) (text output (take k others)))
+        omega (arith, spelling_some output q, ap length is_front.1, length-append written is_front.0, ap length parts, length-append (text output ps) (spelling output q ++ text output (take k others)), length-append (spelling output q) (text output (take k others)))
 
     down : (m : ℕ) → length ps ≤ m → m ≤ length (ps ++ more) → frames_written output (ps ++ more) written m ≡ frames_written output (ps ++ more) written (length ps)
     down zero least within =

@@ -5,14 +5,13 @@ use Rattle.std.proofs.lemmas.Grind.{flat_map-append}
 use Rattle.std.proofs.lemmas.List.{append-nil, length-append, length-drop, drop-append-le, drop-drop}
 use Rattle.std.proofs.Math.Seq.{drop-length}
 use Rattle.frame_model.specs.declared.framing.Framing.{Framing}
-use Rattle.frame_model.specs.declared.framing.Framing.TheVariants.{Len4, Len2, Line}
 use Rattle.frame_model.specs.declared.framing.BadKind.TheVariants.{Unspellable}
 use Rattle.frame_grammar.specs.declared.job.Job.{Job}
 use Rattle.frame_model.specs.Spelling.{obstacle, spelling, text}
 use Rattle.frame_model.specs.Cut.{Verdict, Open, End, Rest, Bad, cut, moved, MayCome}
 use Rattle.frame_model.specs.Translation.{Translation, spellable, from_unspellable, verdict_at, translation_of, behind}
 use Rattle.frame_grammar.specs.Job.{translation}
-use Rattle.frame_model.proofs.FrontLemmas.{front_empty}
+use Rattle.frame_model.proofs.CutLemmas.{empty_ended}
 use Rattle.frame_grammar.specs.Answers.{BeginsWithFrame}
 use Rattle.relay_model.specs.Run.{payloads_of}
 use Rattle.relay_engine.specs.Frames.{IsFirst, Passes, capped}
@@ -36,9 +35,7 @@ translated_behind input output p payloads v n spelt sized =
     ]) refl
 
 nothing_cut : (f : Framing) (max : ℕ) → (cut f max [] true).payloads ≡ []
-nothing_cut Len4 max = refl
-nothing_cut Len2 max = refl
-nothing_cut Line max = rw (front_empty Line max) refl
+nothing_cut f max = ap (λ c. c.payloads) (empty_ended f max)
 
 -- at the end of the input, what ends with it has nothing behind it
 nothing_behind : (f : Framing) (max : ℕ) (x : List ℕ) (n : ℕ) (at_end : Bool) → at_end ≡ true → n ≡ length x → (z : List ℕ) (b : Bool) → MayCome at_end z b → (cut f max (drop n x ++ z) b).payloads ≡ []

@@ -8,7 +8,6 @@ use Rattle.std.proofs.lemmas.Bool.Decides.{Decides-eqb}
 use Rattle.std.proofs.lemmas.Bool.{cases_Bool, cases_lt}
 use Rattle.std.proofs.lemmas.List.{length-append, length-drop, length-take, take-append-drop, drop-append-le, drop-drop, take-append-le, take_all}
 use Rattle.frame_model.specs.declared.framing.Framing.{Framing}
-use Rattle.frame_model.specs.declared.framing.Framing.TheVariants.{Len4, Len2, Line}
 use Rattle.frame_grammar.specs.declared.job.Job.{Job}
 use Rattle.frame_model.specs.Spelling.{is_line_feed, spelling, text as text_of}
 use Rattle.frame_model.specs.Cut.{Verdict, Open, Rest, Bad, moved}
@@ -16,7 +15,7 @@ use Rattle.frame_model.specs.Translation.{behind}
 use Rattle.frame_grammar.specs.Job.{translation}
 use Rattle.relay_model.specs.Ending.{frames_written}
 use Rattle.frame_model.proofs.EndLemmas.{not_open}
-use Rattle.frame_model.proofs.FrameLemmas.{spelling_len}
+use Rattle.frame_model.proofs.FrameLemmas.{spelling_some}
 use Rattle.relay_model.specs.Run.{frames_in, payloads_of}
 use Rattle.pipe_core.specs.declared.reply.ReadReply.TheVariants as read
 use Rattle.pipe_core.specs.History.{Call, Run, Commit, EndWriter, Read, Advance, EndReader, CancelRead, CancelFlush, bytes_of, reader_end, writer_end, seat_of}
@@ -103,14 +102,9 @@ capped_small n small = omega (arith, small)
 pub capped_sum : (xs ys : List ℕ) (a b : ℕ) → a ≡ capped (length xs) → b ≡ capped (length ys) → capped (a + b) ≡ capped (length (xs ++ ys))
 capped_sum xs ys a b first second = omega (arith, first, second, length-append xs ys)
 
-some_spelling : (f : Framing) (p : List ℕ) → 0 < length (spelling f p)
-some_spelling Len4 p = omega (arith, spelling_len Len4 p)
-some_spelling Len2 p = omega (arith, spelling_len Len2 p)
-some_spelling Line p = omega (arith, spelling_len Line p)
-
 nothing_spelt : (f : Framing) (ps : List (List ℕ)) → length (text_of f ps) ≡ 0 → ps ≡ []
 nothing_spelt f [] none = refl
-nothing_spelt f (p ∷ ps) none = absurd (omega (arith, none, length-append (spelling f p) (text_of f ps), some_spelling f p))
+nothing_spelt f (p ∷ ps) none = absurd (omega (arith, none, length-append (spelling f p) (text_of f ps), spelling_some f p))
 
 -- every frame that is to be written is whole
 pub frames_whole : (job : Job) (x text : List ℕ) (at_end : Bool) (n i : ℕ) (v : Verdict) → Passes job x at_end n i text → translation job x at_end ≡ record { text = text; verdict = v } → frames_in job x at_end text ≡ i

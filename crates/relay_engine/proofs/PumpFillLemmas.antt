@@ -1,6 +1,6 @@
 -- A fill step of a relay on one thread, whose pipe rests, and how such a relay ends.
 use Rattle.std.specs.List.{AllByRecursion}
-use Rattle.std.proofs.Common.{◌≡◌, ◌≢◌, ◌<◌, ◌≤◌, ◌+◌, ◌-◌, ◌*◌, ◌^◌, ◌==◌, ℕ, Bool, true, false, cond, if◌then◌else◌, nat_lt, List, [], ◌∷◌, ◌++◌, length, drop, Option, Some, None, Result, Ok, inl, inr, refl, sym, ap, ◌∙◌, subst, append-nil, arith, ◌⊎◌}
+use Rattle.std.proofs.Common.{◌≡◌, ◌≢◌, ◌<◌, ◌≤◌, ◌+◌, ◌-◌, ◌*◌, ◌^◌, ◌==◌, ℕ, Bool, true, false, cond, if◌then◌else◌, nat_lt, List, [], ◌∷◌, ◌++◌, length, drop, max, Option, Some, None, Result, Ok, inl, inr, refl, sym, ap, ◌∙◌, subst, append-nil, arith, ◌⊎◌}
 use Rattle.std.specs.Prelude.{is_none, option_map, unwrap_or}
 use Rattle.std.proofs.KnownBytes.{Consumes-trans}
 use Rattle.std.proofs.lemmas.List.{length-append, take_all}
@@ -12,20 +12,20 @@ use Rattle.frame_model.specs.Spelling.{longest_frame}
 use Rattle.pipe_core.specs.declared.reply.FlushReply.TheVariants as flush
 use Rattle.pipe_core.specs.declared.reply.ReadReply.TheVariants as read
 use Rattle.pipe_core.specs.declared.reply.Wake.{Wake}
-use Rattle.pipe_core.specs.History.{Call, Run, Commit, EndWriter, Read, Advance, EndReader, CancelRead, CancelFlush, bytes_of, run_in, writer_end, reader_end}
+use Rattle.pipe_core.specs.History.{Call, Run, Commit, EndWriter, Read, Advance, EndReader, CancelRead, CancelFlush, bytes_of, writer_end, reader_end}
 use Rattle.pipe_core.specs.Progress.{total, examined, held}
 use Rattle.pipe_core.specs.Reads.{reply_to_read}
 use Rattle.pipe_core.specs.Flushes.{reply_to_commit}
 use Rattle.pipe_core.specs.Legal.{IsLegal}
-use Rattle.pipe_core.specs.Pipe.{HoldsFor}
+use Rattle.pipe_core.specs.Pipe.{kept}
 use Rattle.pipe_core.specs.Standing.{AreThresholds}
 use Rattle.pipe_core.proofs.OrderLemmas.{ordered, total_commit}
 use Rattle.pipe_state.specs.declared.options.Options.{Options}
-use Rattle.pipe_shared.specs.declared.faults.LocalFull as room
+use Rattle.pipe_state.specs.declared.full.Full as room
 use Rattle.pipe_turns.specs.declared.faults.TryFault.{TryFault}
 use Rattle.pipe_core.specs.Answers.{Woke}
-use Rattle.pipe_state.specs.Options.{room_of}
-use Rattle.pipe_shared.specs.Local.{IsFull, Local, LocalAnswers}
+use Rattle.pipe_state.specs.Held.{HoldsRuns}
+use Rattle.pipe_shared.specs.Local.{Local, LocalAnswers, LocalFindsFull}
 use Rattle.relay_engine.specs.Filler.{written, fill_code}
 use Rattle.relay_engine.specs.Filling.{FillingState, HasTaken}
 use Rattle.relay_engine.specs.SoFar.{TakenSoFar}
@@ -33,7 +33,7 @@ use Rattle.relay_engine.specs.WriterEnds.{IsLocalFull, local_drafting}
 use Rattle.relay_engine.specs.LocalEnds.{HoldsLocal, NoOthers, RefusesNone}
 use Rattle.relay_engine.specs.Drainer.{DrainState, looked_at, end_code}
 use Rattle.relay_engine.specs.Draining.{DrainingState}
-use Rattle.relay_engine.specs.Pump.{EndsBy, FillsLocal}
+use Rattle.relay_engine.specs.Pump.{EndsBy, FillsLocal, sure_room_of}
 use Rattle.relay_engine.specs.declared.filling.Filled.{Filled}
 use Rattle.relay_engine.specs.declared.filling.Filled.TheVariants.{Moved, Paused, Full, Ended}
 use Rattle.relay_engine.proofs.FillingLemmas.{EndsFor, OrCommits, Took, took}
@@ -97,34 +97,34 @@ behind_commits d h text (CancelFlush ∷ calls) all legal goes = absurd all.0
 
 -- all that was taken is committed, and the drainer goes on behind it
 record Committed (d : DrainState) (h now : List Call) (text bytes : List ℕ) (middle : Local) : Type 0 where
-  holds : HoldsFor middle.pipe now
+  holds : HoldsLocal middle now
   asked : Asked d h now text
   all : total now ≡ bytes
 
 -- What a fill step has taken.
-abbrev pub Once : FillingState → Local → SourceState → Filled room.LocalFull → FillingState → Local → SourceState → List Call → List ℕ → Type 0
+abbrev pub Once : FillingState → Local → SourceState → Filled room.Full → FillingState → Local → SourceState → List Call → List ℕ → Type 0
 Once f p before filled f' middle after h bytes = Took HoldsLocal NoOthers local_drafting RefusesNone p.options (IsLocalFull tt) (Ok filled) f p before f' middle after h bytes
 
 pub rest_taken : (job : Job) (sb s : SourceState) (kb k : SinkState) (f : FillingState) (d : DrainingState) (p : Local) (ending : Option FillEnd) → (rest : AtRest job sb s kb k f d p ending) → HasTaken HoldsLocal local_drafting f p rest.on.h (total rest.on.h)
 rest_taken job sb s kb k f d p ending rest = let on = rest.on in record {
   stands = on.holds;
-  all = ap (λ (x : List ℕ). written on.h ++ bytes_of (run_in 0 x)) on.draft ∙ append-nil (written on.h) ∙ on.goes.kept;
+  all = ap (λ (x : List Run). written on.h ++ bytes_of x) on.draft ∙ append-nil (written on.h) ∙ on.goes.kept;
   counted = on.counted;
-  drafted = on.drafted ∙ sym (ap (λ (x : List ℕ). length (bytes_of (run_in 0 x))) on.draft);
-  settled = λ none. ap (run_in 0) on.draft;
+  drafted = on.drafted ∙ sym (ap (λ (x : List Run). length (bytes_of x)) on.draft);
+  settled = λ none. on.draft;
 }
 
-committed : (job : Job) (sb s s' : SourceState) (kb k : SinkState) (f f' : FillingState) (d : DrainingState) (p middle : Local) (ending : Option FillEnd) (filled : Filled room.LocalFull) → (rest : AtRest job sb s kb k f d p ending) → (once : Once f p s filled f' middle s' rest.on.h (total rest.on.h)) → middle.pipe.bytes.draft ≡ []
+committed : (job : Job) (sb s s' : SourceState) (kb k : SinkState) (f f' : FillingState) (d : DrainingState) (p middle : Local) (ending : Option FillEnd) (filled : Filled room.Full) → (rest : AtRest job sb s kb k f d p ending) → (once : Once f p s filled f' middle s' rest.on.h (total rest.on.h)) → middle.draft ≡ []
     → Committed d.drained rest.on.h once.now rest.on.text (total rest.on.h ++ once.taken) middle
 committed job sb s s' kb k f f' d p middle ending filled rest once settled =
     let on = rest.on in
     let holds = once.holds.stands in
-    let legal = holds.marks.legal in
+    let legal = holds.runs.marks.legal in
     let a = subst (λ (x : List Call). Asked d.drained on.h x on.text) (sym once.later.is) (behind_commits d.drained on.h on.text once.later.between once.later.all (subst IsLegal once.later.is legal) on.goes) in
     record {
       holds = holds;
       asked = a;
-      all = sym a.goes.kept ∙ sym (append-nil (written once.now)) ∙ sym (ap (λ (x : List ℕ). written once.now ++ bytes_of (run_in 0 x)) settled) ∙ once.holds.all;
+      all = sym a.goes.kept ∙ sym (append-nil (written once.now)) ∙ sym (ap (λ (x : List Run). written once.now ++ bytes_of x) settled) ∙ once.holds.all;
     }
 
 -- ---- the steps
@@ -136,13 +136,13 @@ pub record StepFilled (job : Job) (sb s' : SourceState) (kb k : SinkState) (f f'
 -- what a fill step keeps
 pub record Keeps (f : FillingState) (p : Local) (f' : FillingState) (p' : Local) : Type 0 where
   pub options : p'.options ≡ p.options
-  pub draft : p'.pipe.bytes.draft ≡ []
+  pub draft : p'.draft ≡ []
   pub limit : f'.limit ≡ f.limit
   pub within : f'.taken ≤ f'.limit
   pub one_read : f'.taken ≤ f.taken + p.options.segment
 
 -- bytes were taken
-took_bytes : (job : Job) (sb s s' : SourceState) (kb k : SinkState) (f f' : FillingState) (d : DrainingState) (p middle : Local) (ending : Option FillEnd) (filled : Filled room.LocalFull) → (rest : AtRest job sb s kb k f d p ending) → (once : Once f p s filled f' middle s' rest.on.h (total rest.on.h)) → Keeps f p f' middle
+took_bytes : (job : Job) (sb s s' : SourceState) (kb k : SinkState) (f f' : FillingState) (d : DrainingState) (p middle : Local) (ending : Option FillEnd) (filled : Filled room.Full) → (rest : AtRest job sb s kb k f d p ending) → (once : Once f p s filled f' middle s' rest.on.h (total rest.on.h)) → Keeps f p f' middle
     → Gives s once.taken s' → 0 < length once.taken → StepFilled job sb s' kb k f f' d middle None
 took_bytes job sb s s' kb k f f' d p middle ending filled rest once keeps given some =
     let on = rest.on in
@@ -163,14 +163,14 @@ took_bytes job sb s s' kb k f f' d p middle ending filled rest once keeps given 
           omega (arith, counted, keeps.within, keeps.limit, on.limit),
         );
         counted = counted;
-        drafted = once.holds.drafted ∙ ap (λ (x : List ℕ). length (bytes_of (run_in 0 x))) keeps.draft;
+        drafted = once.holds.drafted ∙ ap (λ (x : List Run). length (bytes_of x)) keeps.draft;
         limit = keeps.limit ∙ on.limit;
         job_is = on.job_is;
         wrote = on.wrote;
         ended = c.asked.ended_is ∙ on.ended ∙ ap (λ (o : Option FillEnd). option_map fill_code o) rest.none_yet;
         not_gone = λ code is. absurd cc;
         draft = keeps.draft;
-        room = subst (λ (o : Options). longest_frame job.input job.max ≤ room_of o) (sym keeps.options) on.room;
+        room = subst (λ (o : Options). longest_frame job.input job.max ≤ sure_room_of o) (sym keeps.options) on.room;
         thresholds = subst (λ (o : Options). AreThresholds o.pause o.resume) (sym keeps.options) on.thresholds;
         segment = ap (λ (o : Options). o.segment) keeps.options ∙ on.segment;
         in_time = subst (λ (x : List ℕ). IsInTime job x) (sym c.all) (one_read job (total h) once.taken (none_bad job d.drained h on.text on.job_is on.goes.drained rest.all_seen) (omega (arith, size, keeps.one_read, on.segment)));
@@ -183,39 +183,39 @@ took_bytes job sb s s' kb k f f' d p middle ending filled rest once keeps given 
     less false size = omega (arith, keeps.limit, size, keeps.within, some)
 
 -- no byte was taken, and the writer has completed
-took_end : (job : Job) (sb s s' : SourceState) (kb k : SinkState) (f f' : FillingState) (d : DrainingState) (p middle p' : Local) (ending : Option FillEnd) (filled : Filled room.LocalFull) (end : FillEnd) (wake : Wake) → (rest : AtRest job sb s kb k f d p ending) → (once : Once f p s filled f' middle s' rest.on.h (total rest.on.h)) → middle.pipe.bytes.draft ≡ []
-    → Keeps f p f' p' → LocalAnswers middle (EndWriter (fill_code end) ∷ []) (Woke wake) p' → once.taken ≡ [] → ((code : ℕ) → end ≢ taking.Gone code) → TakenSoFar job.limit (total rest.on.h ++ once.taken) (Some end) sb s'
+took_end : (job : Job) (sb s s' : SourceState) (kb k : SinkState) (f f' : FillingState) (d : DrainingState) (p middle p' : Local) (ending : Option FillEnd) (filled : Filled room.Full) (end : FillEnd) (wake : Wake) → (rest : AtRest job sb s kb k f d p ending) → (once : Once f p s filled f' middle s' rest.on.h (total rest.on.h)) → middle.draft ≡ []
+    → Keeps f p f' p' → LocalAnswers middle (EndWriter (fill_code end) ∷ []) (Woke wake) p' → p'.hint ≡ 0 → once.taken ≡ [] → ((code : ℕ) → end ≢ taking.Gone code) → TakenSoFar job.limit (total rest.on.h ++ once.taken) (Some end) sb s'
     → StepFilled job sb s' kb k f f' d p' (Some end)
-took_end job sb s s' kb k f f' d p middle p' ending filled end wake rest once settled keeps completes none not_gone taken =
+took_end job sb s s' kb k f f' d p middle p' ending filled end wake rest once settled keeps completes hint none not_gone taken =
     let on = rest.on in
     let h = on.h in
     let c = committed job sb s s' kb k f f' d p middle ending filled rest once settled in
     let all : total once.now ≡ total h = c.all ∙ ap (λ (x : List ℕ). total h ++ x) none ∙ append-nil (total h) in
-    let holds : HoldsFor p'.pipe (EndWriter (fill_code end) ∷ once.now) = completes.stands once.now c.holds in
+    let runs : HoldsRuns p'.pipe (EndWriter (fill_code end) ∷ once.now) = completes.stands once.now c.holds.runs in
     let counted : f'.taken ≡ length (total once.now) = once.holds.counted ∙ sym (ap length c.all) in
     let same : f'.taken ≡ f.taken = counted ∙ ap length all ∙ sym on.counted in
     record {
       on = record {
         h = EndWriter (fill_code end) ∷ once.now;
         text = on.text;
-        holds = holds;
+        holds = record { runs = runs; hint = omega (arith, hint) };
         goes = goes_end d.drained once.now on.text (fill_code end) c.asked.goes;
         fresh = on.fresh;
         taken = subst (λ (x : List ℕ). TakenSoFar job.limit x (Some end) sb s') (sym c.all) taken;
         counted = counted;
-        drafted = once.holds.drafted ∙ ap (λ (x : List ℕ). length (bytes_of (run_in 0 x))) settled;
+        drafted = once.holds.drafted ∙ ap (λ (x : List Run). length (bytes_of x)) settled;
         limit = keeps.limit ∙ on.limit;
         job_is = on.job_is;
         wrote = on.wrote;
         ended = refl;
         not_gone = λ code is. not_gone code (ap (λ (o : Option FillEnd). unwrap_or o end) is);
         draft = keeps.draft;
-        room = subst (λ (o : Options). longest_frame job.input job.max ≤ room_of o) (sym keeps.options) on.room;
+        room = subst (λ (o : Options). longest_frame job.input job.max ≤ sure_room_of o) (sym keeps.options) on.room;
         thresholds = subst (λ (o : Options). AreThresholds o.pause o.resume) (sym keeps.options) on.thresholds;
         segment = ap (λ (o : Options). o.segment) keeps.options ∙ on.segment;
         in_time = subst (λ (x : List ℕ). IsInTime job x) (sym all) on.in_time;
       };
-      less = less (nat_lt 0 (p'.pipe.control.committed - p'.pipe.control.examined)) (none_left _ _ (omega (arith, holds.marks.committed, holds.marks.examined, c.asked.examined_is, rest.all_seen, ap length all))) same;
+      less = less (nat_lt 0 (p'.pipe.control.committed - p'.pipe.control.examined)) (none_left _ _ (omega (arith, runs.marks.committed, runs.marks.examined, c.asked.examined_is, rest.all_seen, ap length all))) same;
     }
   where
     less : (b : Bool) → b ≡ false → f'.taken ≡ f.taken → (2 * (f'.limit - f'.taken) + 0 + cond b 1 0) + 1 ≤ 2 * (f.limit - f.taken) + 1
@@ -231,7 +231,7 @@ NeverBoth = (pause resume : ℕ) (h : List Call) (examined held unexamined : ℕ
 moved_some : (job : Job) (sb s s' : SourceState) (kb k : SinkState) (f f' : FillingState) (d : DrainingState) (p p' : Local) (ending : Option FillEnd) (n : ℕ) → (rest : AtRest job sb s kb k f d p ending) → (once : Once f p s (Moved n) f' p' s' rest.on.h (total rest.on.h)) → 0 < length once.taken
 moved_some job sb s s' kb k f f' d p p' ending n rest once = elim once.read [
   | inl owed ↦
-      let none : n ≡ 0 = omega (arith, owed.settles.0, ap (λ (x : List ℕ). length (bytes_of (run_in 0 x))) rest.on.draft) in
+      let none : n ≡ 0 = omega (arith, owed.settles.0, ap (λ (x : List Run). length (bytes_of x)) rest.on.draft) in
       let told : (0 == 0) ≡ false = subst (λ (m : ℕ). (m == 0) ≡ false) none owed.told in
       absurd cc
   | inr some ↦ some refl
@@ -242,14 +242,14 @@ paused_some job sb s s' kb k f f' d p p' ending n law rest once = elim once.read
   | inl owed ↦
       let c = owed.settles in
       let found = later_same rest.on.h c.found c.later in
-      absurd (law p.options.pause p.options.resume rest.on.h (examined rest.on.h) (length (held rest.on.h)) n rest.on.thresholds.1 rest.on.holds.marks.legal rest.waits
-      (sym (ap (λ (x : List Call). reply_to_commit p.options.pause p.options.resume x []) found) ∙ sym (ap (λ (x : List ℕ). reply_to_commit p.options.pause p.options.resume c.found (run_in 0 x)) rest.on.draft) ∙ sym c.replied))
+      absurd (law p.options.pause p.options.resume rest.on.h (examined rest.on.h) (length (held rest.on.h)) n rest.on.thresholds.1 rest.on.holds.runs.marks.legal rest.waits
+      (sym (ap (λ (x : List Call). reply_to_commit p.options.pause p.options.resume x []) found) ∙ sym (ap (λ (x : List Run). reply_to_commit p.options.pause p.options.resume c.found x) rest.on.draft) ∙ sym c.replied))
   | inr some ↦ some refl
 ]
 
 -- nor is it full
-never_full : (job : Job) (sb s s' : SourceState) (kb k : SinkState) (f f' : FillingState) (d : DrainingState) (p middle : Local) (ending : Option FillEnd) (filled : Filled room.LocalFull) (told : room.LocalFull) → (rest : AtRest job sb s kb k f d p ending) → (once : Once f p s filled f' middle s' rest.on.h (total rest.on.h)) → Keeps f p f' middle → once.taken ≡ []
-    → IsFull 1 told middle → ⊥
+never_full : (job : Job) (sb s s' : SourceState) (kb k : SinkState) (f f' : FillingState) (d : DrainingState) (p middle : Local) (ending : Option FillEnd) (filled : Filled room.Full) (told : room.Full) → (rest : AtRest job sb s kb k f d p ending) → (once : Once f p s filled f' middle s' rest.on.h (total rest.on.h)) → Keeps f p f' middle → once.taken ≡ []
+    → LocalFindsFull 1 told middle → ⊥
 never_full job sb s s' kb k f f' d p middle ending filled told rest once keeps none full =
     let on = rest.on in
     let c = committed job sb s s' kb k f f' d p middle ending filled rest once keeps.draft in
@@ -257,16 +257,21 @@ never_full job sb s s' kb k f f' d p middle ending filled told rest once keeps n
     let all : total now ≡ total on.h = c.all ∙ ap (λ (x : List ℕ). total on.h ++ x) none ∙ append-nil (total on.h) in
     let drained = c.asked.goes.drained in
     let seen : looked_at now ≡ total now = take_all (examined now) (total now) (omega (arith, c.asked.examined_is, rest.all_seen, ap length all)) in
-    let held_is : middle.pipe.bytes.held ≡ drop d.drained.place (total now) =
-    c.holds.held ∙ ap (λ (o : Option ℕ). if is_none o then held now else []) c.asked.goes.attended ∙ ap (λ (n : ℕ). drop n (total now)) (sym drained.place) in
-    let room : longest_frame job.input job.max ≤ room_of middle.options = subst (λ (o : Options). longest_frame job.input job.max ≤ room_of o) (sym keeps.options) on.room in
-    omega (arith, ap length held_is, ap (λ (x : List ℕ). length (drop d.drained.place x)) seen, drained.short, full.lacks.full, ap length keeps.draft, room, longest_same d.drained job on.job_is)
+    let kept_is : kept now ≡ drop d.drained.place (total now) =
+    ap (λ (o : Option ℕ). if is_none o then held now else []) c.asked.goes.attended ∙ ap (λ (n : ℕ). drop n (total now)) (sym drained.place) in
+    let room : longest_frame job.input job.max ≤ sure_room_of middle.options = subst (λ (o : Options). longest_frame job.input job.max ≤ sure_room_of o) (sym keeps.options) on.room in
+    let least : full.part.size - max middle.hint 1 + 1 ≡ middle.options.segment = (let hint = c.holds.hint in let size = full.size in let some = full.small in omega arith) in
+    let filled : sure_room_of middle.options ≤ length (kept now) + length (bytes_of full.part.draft) =
+    subst (λ (n : ℕ). (n - 1) * middle.options.segment ≤ length (kept now) + length (bytes_of full.part.draft)) full.count
+    (subst (λ (n : ℕ). (full.part.count - 1) * n ≤ length (kept now) + length (bytes_of full.part.draft)) least (full.full.bound now c.holds.runs)) in
+    let none_drafted : length (bytes_of full.part.draft) ≡ 0 = ap (λ (x : List Run). length (bytes_of x)) (full.draft ∙ keeps.draft) in
+    omega (arith, ap length kept_is, ap (λ (x : List ℕ). length (drop d.drained.place x)) seen, drained.short, filled, none_drafted, room, longest_same d.drained job on.job_is)
   where
     longest_same : (d : DrainState) (job : Job) → d.job ≡ job → longest_frame d.job.input d.job.max ≡ longest_frame job.input job.max
     longest_same d job is = ap (λ (j : Job). longest_frame j.input j.max) is
 
 -- nor is the reader gone
-never_gone : (d : DrainState) (text : List ℕ) (options : Options) (f : FillingState) (now : List Call) (code : ℕ) → Goes d now text → EndsFor {F = room.LocalFull} options (Ok (Ended (taking.Gone code))) f now → ⊥
+never_gone : (d : DrainState) (text : List ℕ) (options : Options) (f : FillingState) (now : List Call) (code : ℕ) → Goes d now text → EndsFor {F = room.Full} options (Ok (Ended (taking.Gone code))) f now → ⊥
 never_gone d text options f now code goes (canceled, runs, found, last, replied) =
     let said = gone_says options.pause options.resume found runs canceled (Some code) (sym replied) in
     let attended : reader_end found ≡ None = sym (ap (λ (x : List Call). reader_end x) last) ∙ goes.attended in
@@ -292,19 +297,19 @@ filled job sb s s' kb k f f' d p p' ending result law rest fills keeps =
     taken = subst (λ (o : Option FillEnd). TakenSoFar job.limit (total rest.on.h) o sb s) rest.none_yet rest.on.taken
 
     -- the taking has ended, for this reason
-    ended : (end : FillEnd) (middle : Local) → (once : Once f p s (Ended end) f' middle s' rest.on.h (total rest.on.h)) → middle.pipe.bytes.draft ≡ [] → EndsBy (Ended end) middle result p' → once.taken ≡ [] → ((code : ℕ) → end ≢ taking.Gone code) → StepFilled job sb s' kb k f f' d p' result
+    ended : (end : FillEnd) (middle : Local) → (once : Once f p s (Ended end) f' middle s' rest.on.h (total rest.on.h)) → middle.draft ≡ [] → EndsBy (Ended end) middle result p' → once.taken ≡ [] → ((code : ℕ) → end ≢ taking.Gone code) → StepFilled job sb s' kb k f f' d p' result
     ended end middle once settled ends none not_gone =
         let len : f'.taken ≡ length (total rest.on.h ++ once.taken) = once.holds.counted in
-        at_end end ends.0 (took_end job sb s s' kb k f f' d p middle p' ending (Ended end) end ends.1.0 rest once settled keeps ends.1.1 none not_gone
+        at_end end ends.0 (took_end job sb s s' kb k f f' d p middle p' ending (Ended end) end ends.1.0 rest once settled keeps ends.1.1 ends.2 none not_gone
         (taken_on job.limit (total rest.on.h) once.taken (Ok (Ended end)) sb s s' (omega (arith, len, keeps.within, keeps.limit, rest.on.limit))
-        (λ is. let at_limit : f'.taken ≡ f'.limit = subst (λ (a : Result (Filled room.LocalFull) TryFault). EndsFor p.options a f' once.now) is once.ends in omega (arith, len, at_limit, keeps.limit, rest.on.limit)) taken once.loses))
+        (λ is. let at_limit : f'.taken ≡ f'.limit = subst (λ (a : Result (Filled room.Full) TryFault). EndsFor p.options a f' once.now) is once.ends in omega (arith, len, at_limit, keeps.limit, rest.on.limit)) taken once.loses))
 
-    by_step : (filled : Filled room.LocalFull) (middle : Local) → (once : Once f p s filled f' middle s' rest.on.h (total rest.on.h)) → middle.pipe.bytes.draft ≡ [] → EndsBy filled middle result p' → StepFilled job sb s' kb k f f' d p' result
+    by_step : (filled : Filled room.Full) (middle : Local) → (once : Once f p s filled f' middle s' rest.on.h (total rest.on.h)) → middle.draft ≡ [] → EndsBy filled middle result p' → StepFilled job sb s' kb k f f' d p' result
     by_step (Moved n) middle once settled ends =
         more middle ends.0 ends.1 (took_bytes job sb s s' kb k f f' d p middle ending (Moved n) rest once (stays middle ends.1) once.loses (moved_some job sb s s' kb k f f' d p middle ending n rest once))
     by_step (Paused n) middle once settled ends =
         more middle ends.0 ends.1 (took_bytes job sb s s' kb k f f' d p middle ending (Paused n) rest once (stays middle ends.1) once.loses (paused_some job sb s s' kb k f f' d p middle ending n law rest once))
-    by_step (Full told) middle once settled ends = absurd (never_full job sb s s' kb k f f' d p middle ending (Full told) told rest once (stays middle ends.1) once.loses.0 (subst (λ (x : Local). IsFull 1 told x) (sym once.met.1.1) once.met.1.0))
+    by_step (Full told) middle once settled ends = absurd (never_full job sb s s' kb k f f' d p middle ending (Full told) told rest once (stays middle ends.1) once.loses.0 (subst (λ (x : Local). LocalFindsFull 1 told x) (sym once.met.1.1) once.met.1.0))
     by_step (Ended taking.End) middle once settled ends = ended taking.End middle once settled ends once.loses.0 (λ code is. absurd cc)
     by_step (Ended taking.Fault) middle once settled ends = ended taking.Fault middle once settled ends once.loses.0 (λ code is. absurd cc)
     by_step (Ended taking.Long) middle once settled ends = ended taking.Long middle once settled ends once.loses.0 (λ code is. absurd cc)
@@ -312,8 +317,8 @@ filled job sb s s' kb k f f' d p p' ending result law rest fills keeps =
         let c = committed job sb s s' kb k f f' d p middle ending (Ended (taking.Gone code)) rest once settled in
         absurd (never_gone d.drained rest.on.text p.options f' once.now code c.asked.goes once.ends)
 
-pub small_total : (p : Local) (h : List Call) → HoldsFor p.pipe h → p.pipe.control.committed ≤ 2 ^ 62
-small_total p h holds = omega (arith, holds.marks.committed, (ordered h holds.marks.legal).total_in)
+pub small_total : (p : Local) (h : List Call) → HoldsLocal p h → p.pipe.control.committed ≤ 2 ^ 62
+small_total p h holds = omega (arith, holds.runs.marks.committed, (ordered h holds.runs.marks.legal).total_in)
 
 -- how the taking ended, where it didn't since the reader went
 abbrev pub taken_as : Option FillEnd → DrainEnd → FillEnd

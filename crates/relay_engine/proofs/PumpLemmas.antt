@@ -10,11 +10,10 @@ use Rattle.frame_grammar.specs.declared.job.Job.{Job}
 use Rattle.relay_model.specs.declared.ending.FillEnd.{FillEnd}
 use Rattle.relay_model.specs.declared.ending.FillEnd.TheVariants as taking
 use Rattle.frame_model.specs.declared.framing.Framing.{Framing}
-use Rattle.frame_model.specs.declared.framing.Framing.TheVariants.{Len4, Len2, Line}
 use Rattle.frame_model.specs.Spelling.{longest_frame}
-use Rattle.frame_model.specs.Cut.{Open, cut}
 use Rattle.frame_model.specs.Translation.{translation_of}
-use Rattle.frame_model.proofs.FrontLemmas.{front_empty}
+use Rattle.frame_model.proofs.CutLemmas.{empty_open}
+use Rattle.frame_model.proofs.FrameLemmas.{some_longest}
 use Rattle.pipe_core.specs.History.{Call, Run, Commit, EndWriter, Read, Advance, EndReader, CancelRead, CancelFlush, writer_end, reader_end}
 use Rattle.pipe_core.specs.Progress.{total, examined, unexamined, held, canceled_read, canceled_flush}
 use Rattle.pipe_core.specs.Reads.{read_is_ready, reply_to_read}
@@ -22,12 +21,10 @@ use Rattle.pipe_core.specs.declared.reply.ReadReply.TheVariants as read
 use Rattle.pipe_core.specs.Lends.{lend}
 use Rattle.pipe_core.specs.Flushes.{flush_is_ready, reply_to_commit}
 use Rattle.pipe_core.specs.declared.reply.FlushReply.TheVariants as flush
-use Rattle.pipe_core.specs.Pipe.{HoldsFor}
 use Rattle.pipe_core.specs.Standing.{AreThresholds}
 use Rattle.pipe_core.proofs.OrderLemmas.{pending_tells}
 use Rattle.pipe_state.specs.declared.options.Options.{Options}
 use Rattle.pipe_turns.specs.declared.faults.TryFault.{TryFault}
-use Rattle.pipe_state.specs.Options.{room_of}
 use Rattle.pipe_shared.specs.Local.{Local}
 use Rattle.relay_engine.specs.Filler.{written, fill_code}
 use Rattle.relay_engine.specs.Filling.{FillingState}
@@ -35,6 +32,7 @@ use Rattle.relay_engine.specs.Later.{Later}
 use Rattle.relay_engine.specs.Drainer.{DrainState, IsDrained}
 use Rattle.relay_engine.specs.ReaderEnds.{Aside, aside_local, lent_local, local_tally}
 use Rattle.relay_engine.specs.LocalEnds.{HoldsLocal, NoOthers, RefusesNone}
+use Rattle.relay_engine.specs.Pump.{sure_room_of}
 use Rattle.relay_engine.specs.Draining.{DrainingState, DrainsOnce, GainsBy, GainsIf, MovesBy, OrReaders, lent_for}
 use Rattle.relay_engine.specs.SoFar.{TakenSoFar}
 use Rattle.relay_engine.specs.declared.draining.Owed.{Owed}
@@ -58,7 +56,7 @@ pub record Goes (d : DrainState) (h : List Call) (text : List ℕ) : Type 0 wher
 pub record Pumps (job : Job) (source_before source_now : SourceState) (sink_before sink_now : SinkState) (f : FillingState) (d : DrainingState) (p : Local) (ending : Option FillEnd) : Type 0 where
   pub h : List Call
   pub text : List ℕ
-  pub holds : HoldsFor p.pipe h
+  pub holds : HoldsLocal p h
   pub goes : Goes d.drained h text
   pub fresh : d.owed ≡ None
   pub taken : TakenSoFar job.limit (total h) ending source_before source_now
@@ -69,8 +67,8 @@ pub record Pumps (job : Job) (source_before source_now : SourceState) (sink_befo
   pub wrote : Takes sink_before text sink_now
   pub ended : writer_end h ≡ option_map fill_code ending
   pub not_gone : (code : ℕ) → ending ≢ Some (taking.Gone code)
-  pub draft : p.pipe.bytes.draft ≡ []
-  pub room : longest_frame job.input job.max ≤ room_of p.options
+  pub draft : p.draft ≡ []
+  pub room : longest_frame job.input job.max ≤ sure_room_of p.options
   pub thresholds : AreThresholds p.options.pause p.options.resume
   pub segment : p.options.segment ≡ job.seg
   pub in_time : IsInTime job (total h)
@@ -85,29 +83,19 @@ DrainsLocal d p before progress d' p' after = DrainsOnce HoldsLocal NoOthers Ref
 
 -- ---- the start
 
-empty_open : (f : Framing) (max : ℕ) → cut f max [] false ≡ record { payloads = []; verdict = Open }
-empty_open Len4 max = refl
-empty_open Len2 max = refl
-empty_open Line max = rw (front_empty Line max) refl
-
-some_frame : (f : Framing) (max : ℕ) → 0 < longest_frame f max
-some_frame Len4 max = omega arith
-some_frame Len2 max = omega arith
-some_frame Line max = omega arith
-
 pub new_drained : (job : Job) → IsDrained (record { job = job; place = 0; frames = 0; written = 0; known = 0 }) [] []
 new_drained job = record {
   place = refl;
   passes = passes_nothing job [] false;
   rest = ap (λ c. translation_of job.input job.output c.payloads c.verdict) (empty_open job.input job.max);
-  short = some_frame job.input job.max;
+  short = some_longest job.input job.max;
   counted = refl;
   known = omega arith;
   unended = λ line. refl;
 }
 
 pub starts : (job : Job) (s : SourceState) (k : SinkState) (f : FillingState) (d : DrainingState) (p : Local) → f ≡ record { limit = job.limit; taken = 0; owed = false; drafted = 0 } → d ≡ record { drained = record { job = job; place = 0; frames = 0; written = 0; known = 0 }; owed = None }
-    → HoldsFor p.pipe [] → p.pipe.bytes.draft ≡ [] → longest_frame job.input job.max ≤ room_of p.options → AreThresholds p.options.pause p.options.resume → p.options.segment ≡ job.seg → Pumps job s s k k f d p None
+    → HoldsLocal p [] → p.draft ≡ [] → longest_frame job.input job.max ≤ sure_room_of p.options → AreThresholds p.options.pause p.options.resume → p.options.segment ≡ job.seg → Pumps job s s k k f d p None
 starts job s k f d p filling draining holds draft room thresholds segment = record {
   h = [];
   text = [];
@@ -213,18 +201,18 @@ record Behind (h k : List Call) (p' : Local) : Type 0 where
   same : Same h k
   attended : reader_end k ≡ None
 
-behind : (h k : List Call) (p' : Local) → Later (OrReaders NoOthers) h k → HoldsFor p'.pipe k → IsNone p'.pipe.control.gone → Behind h k p'
+behind : (h k : List Call) (p' : Local) → Later (OrReaders NoOthers) h k → HoldsLocal p' k → IsNone p'.pipe.control.gone → Behind h k p'
 behind h k p' on holds gone = record {
   same = behind_reader h k on;
-  attended = sym holds.marks.gone ∙ none_is p'.pipe.control.gone gone;
+  attended = sym holds.runs.marks.gone ∙ none_is p'.pipe.control.gone gone;
 }
 
-no_lend : (k : List Call) (p' : Local) → HoldsFor p'.pipe k → p'.pipe.control.lent ≡ None → lend k ≡ None
-no_lend k p' holds none = none_mapped length (lend k) (sym holds.marks.lent ∙ none)
+no_lend : (k : List Call) (p' : Local) → HoldsLocal p' k → p'.pipe.control.lent ≡ None → lend k ≡ None
+no_lend k p' holds none = none_mapped length (lend k) (sym holds.runs.marks.lent ∙ none)
 
 -- the options and the draft are as they were
 abbrev aside : Local → Aside
-aside p = record { options = p.options; draft = p.pipe.bytes.draft }
+aside p = record { options = p.options; draft = p.draft }
 
 same_aside : (p p' : Local) → aside_local p' ≡ aside_local p → aside p' ≡ aside p
 same_aside p p' is = ap (λ (o : Option Aside). unwrap_or o (aside p)) is
@@ -258,7 +246,7 @@ moved_on job sb s kb k k' f d d' p p' ending frames gone on once =
       ended = so.same.ended_is ∙ on.ended;
       not_gone = on.not_gone;
       draft = ap (λ a. a.draft) kept ∙ on.draft;
-      room = subst (λ (o : Options). longest_frame job.input job.max ≤ room_of o) (sym (ap (λ a. a.options) kept)) on.room;
+      room = subst (λ (o : Options). longest_frame job.input job.max ≤ sure_room_of o) (sym (ap (λ a. a.options) kept)) on.room;
       thresholds = subst (λ (o : Options). AreThresholds o.pause o.resume) (sym (ap (λ a. a.options) kept)) on.thresholds;
       segment = ap (λ a. a.options.segment) kept ∙ on.segment;
       in_time = subst (λ (x : List ℕ). IsInTime job x) (sym so.same.total_is) on.in_time;
@@ -278,9 +266,9 @@ moved_less job sb s kb k k' f d d' p p' ending frames gone on once =
     let moves = subst (λ (o : Option Owed). MovesBy NoOthers o d h frames d' a.now) on.fresh a.how.0 in
     let found = later_same h moves.found moves.later in
     let before : nat_lt 0 (p.pipe.control.committed - p.pipe.control.examined) ≡ true =
-    rw (on.holds.marks.committed, on.holds.marks.examined) (some_unexamined h moves.canceled moves.len on.goes.uncanceled (subst (λ (x : List Call). reply_to_read 0 x ≡ read.Ready moves.canceled None moves.len) found moves.told)) in
+    rw (on.holds.runs.marks.committed, on.holds.runs.marks.examined) (some_unexamined h moves.canceled moves.len on.goes.uncanceled (subst (λ (x : List Call). reply_to_read 0 x ≡ read.Ready moves.canceled None moves.len) found moves.told)) in
     let now : nat_lt 0 (p'.pipe.control.committed - p'.pipe.control.examined) ≡ false =
-    none_left _ _ (omega (arith, a.stands.marks.committed, a.stands.marks.examined, moves.all_seen, ap length so.same.total_is, ap (λ (x : List Call). length (total x)) found)) in
+    none_left _ _ (omega (arith, a.stands.runs.marks.committed, a.stands.runs.marks.examined, moves.all_seen, ap length so.same.total_is, ap (λ (x : List Call). length (total x)) found)) in
     fuel_less (2 * (f.limit - f.taken)) (if is_none ending then 1 else 0) (nat_lt 0 (p'.pipe.control.committed - p'.pipe.control.examined)) (nat_lt 0 (p.pipe.control.committed - p.pipe.control.examined)) now before
 
 -- the pipe rests: all that is committed was examined, and the writer goes on
@@ -305,7 +293,7 @@ idle job sb s kb k f d d' p p' ending n k' gone on once =
       on = record {
         h = Read 0 ∷ h;
         text = on.text;
-        holds = subst (λ (x : List Call). HoldsFor p'.pipe x) now a.stands;
+        holds = subst (λ (x : List Call). HoldsLocal p' x) now a.stands;
         goes = record {
           drained = subst (λ (e : DrainingState). IsDrained e.drained (Read 0 ∷ h) on.text) (sym idles.unchanged) (record { place = drained.place; passes = drained.passes; rest = drained.rest; short = drained.short; counted = drained.counted; known = drained.known; unended = drained.unended });
           kept = on.goes.kept;
@@ -323,18 +311,18 @@ idle job sb s kb k f d d' p p' ending n k' gone on once =
         ended = on.ended;
         not_gone = on.not_gone;
         draft = ap (λ a. a.draft) kept ∙ on.draft;
-        room = subst (λ (o : Options). longest_frame job.input job.max ≤ room_of o) (sym (ap (λ a. a.options) kept)) on.room;
+        room = subst (λ (o : Options). longest_frame job.input job.max ≤ sure_room_of o) (sym (ap (λ a. a.options) kept)) on.room;
         thresholds = subst (λ (o : Options). AreThresholds o.pause o.resume) (sym (ap (λ a. a.options) kept)) on.thresholds;
         segment = ap (λ a. a.options.segment) kept ∙ on.segment;
         in_time = on.in_time;
       };
       none_yet = none_mapped fill_code ending (sym on.ended ∙ goes_yet h waiting);
-      all_seen = pending_says h n (length (held h)) on.holds.marks.legal told;
+      all_seen = pending_says h n (length (held h)) on.holds.runs.marks.legal told;
       waits = waits_again h waiting;
     }
 
 pub rest_open : (job : Job) (sb s : SourceState) (kb k : SinkState) (f : FillingState) (d : DrainingState) (p : Local) (ending : Option FillEnd) → AtRest job sb s kb k f d p ending → p.pipe.control.ended ≡ None
-rest_open job sb s kb k f d p ending rest = rest.on.holds.marks.ended ∙ rest.on.ended ∙ ap (λ (o : Option FillEnd). option_map fill_code o) rest.none_yet
+rest_open job sb s kb k f d p ending rest = rest.on.holds.runs.marks.ended ∙ rest.on.ended ∙ ap (λ (o : Option FillEnd). option_map fill_code o) rest.none_yet
 
 -- a relay whose pipe rests has one step more than what a fill step leaves
 pub rest_less : (f : FillingState) (p : Local) (ending : Option FillEnd) (left : ℕ) → ending ≡ None → left + 1 ≤ 2 * (f.limit - f.taken) + 1 → left < fuel f p ending

@@ -9,7 +9,6 @@ use Rattle.pipe_core.specs.Answers.{Answer, Flushed, Gave, Woke}
 use Rattle.pipe_core.specs.Flushes.{reply_to_commit}
 use Rattle.pipe_core.specs.Legal.{IsLegal}
 use Rattle.pipe_core.specs.Progress.{total}
-use Rattle.pipe_core.specs.Pipe.{Pipe, HoldsFor}
 use Rattle.pipe_core.proofs.OrderLemmas.{total_commit}
 use Rattle.pipe_state.specs.declared.options.Options.{Options}
 use Rattle.pipe_turns.specs.Log.{calls_of}
@@ -17,6 +16,8 @@ use Rattle.pipe_turns.specs.Heard.{CallsBehind, Hears}
 use Rattle.pipe_turns.specs.Turns.{Wins, FindsTooMuch}
 use Rattle.pipe_shared.specs.Ends.{Writer}
 use Rattle.pipe_shared.specs.Granting.{Grants}
+use Rattle.pipe_shared.specs.Local.{Local}
+use Rattle.relay_engine.specs.LocalEnds.{HoldsLocal}
 use Rattle.relay_engine.specs.Filler.{written}
 use Rattle.relay_engine.specs.Later.{CallsLater, HearsLater}
 use Rattle.relay_engine.specs.Filling.{IsGranted}
@@ -94,5 +95,5 @@ never_too_much size told w w' hears finds total =
     (record { between = hears.heard; all = hears.others; is = hears.seen ∙ ap (λ (x : List Call). hears.heard ++ x) (sym total.1.0) }) in
     omega (arith, total.2, finds.told, finds.passes, total_short (calls_of w'.seat.seen), ap length same)
 
-pub local_fits : (p : Pipe) (size : ℕ) → (h : List Call) × HoldsFor p h × (length (written h) + size ≤ 2 ^ 62) → 2 ^ 62 < p.control.committed + size → ⊥
-local_fits p size total passes = omega (arith, total.2, passes, total.1.marks.committed, total_short total.0)
+pub local_fits : (p : Local) (size : ℕ) → (h : List Call) × HoldsLocal p h × (length (written h) + size ≤ 2 ^ 62) → 2 ^ 62 < p.pipe.control.committed + size → ⊥
+local_fits p size total passes = omega (arith, total.2, passes, total.1.runs.marks.committed, total_short total.0)

@@ -1,13 +1,14 @@
 -- What holds of both ends of a pipe for one thread.
-use Rattle.std.specs.Prelude.{List}
+use Rattle.std.specs.Prelude.{◌≤◌, List}
 use Rattle.pipe_core.specs.History.{Call}
-use Rattle.pipe_core.specs.Pipe.{HoldsFor}
+use Rattle.pipe_state.specs.Held.{HoldsRuns}
 use Rattle.pipe_turns.specs.declared.faults.TryFault.{TryFault}
 use Rattle.pipe_shared.specs.Local.{Local}
 
--- It stands for a history.
-abbrev pub HoldsLocal : Local → List Call → Type 0
-HoldsLocal p h = HoldsFor p.pipe h
+-- It stands for a history, and its writer asked for no more than one byte at a time.
+pub record HoldsLocal (p : Local) (h : List Call) : Type 0 where
+  pub runs : HoldsRuns p.pipe h
+  pub hint : p.hint ≤ 1
 
 -- Nobody else makes a call.
 abbrev pub NoOthers : Call → Type 0

@@ -1,7 +1,7 @@
 -- What an engine sees of the reading end of a pipe: of the end of a pipe for two threads, or of a whole pipe for one thread.
 use Rattle.std.specs.Prelude.{ℕ, ◌≡◌, List, length, Option, Some, None, IsNone, option_map}
 use Rattle.turn_cell.specs.Seat.{CellState, IsIdle}
-use Rattle.pipe_core.specs.History.{Call}
+use Rattle.pipe_core.specs.History.{Call, Run}
 use Rattle.pipe_core.specs.Legal.{IsLegal}
 use Rattle.pipe_state.specs.declared.options.Options.{Options}
 use Rattle.pipe_turns.specs.declared.faults.TryFault.{TryFault}
@@ -15,7 +15,7 @@ use Rattle.relay_engine.specs.Tally.{Tally, no_tally, tally_of}
 -- What no history tells: the options, and what is drafted.
 pub record Aside : Type 0 where
   pub options : Options
-  pub draft : List ℕ
+  pub draft : List Run
 
 -- ---- a pipe for two threads
 
@@ -53,4 +53,4 @@ abbrev pub lent_local : Local → Option ℕ
 lent_local p = p.pipe.control.lent
 
 abbrev pub aside_local : Local → Option Aside
-aside_local p = Some (record { options = p.options; draft = p.pipe.bytes.draft })
+aside_local p = Some (record { options = p.options; draft = p.draft })

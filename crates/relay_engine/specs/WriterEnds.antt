@@ -1,10 +1,9 @@
 -- What a filler sees of the writing ends of both pipes.
 use Rattle.std.specs.Prelude.{◌≡◌, ◌≢◌, List, length, Some, None, IsNone}
 use Rattle.turn_cell.specs.Seat.{CellState, IsIdle}
-use Rattle.pipe_core.specs.History.{Call, seat_of, run_in}
+use Rattle.pipe_core.specs.History.{Call, seat_of}
 use Rattle.pipe_core.specs.Legal.{IsLegal}
 use Rattle.pipe_state.specs.declared.options.Options.{Options}
-use Rattle.pipe_shared.specs.declared.faults.LocalFull.{LocalFull}
 use Rattle.pipe_state.specs.declared.full.Full.{Full}
 use Rattle.pipe_turns.specs.Name.{Name}
 use Rattle.pipe_turns.specs.declared.faults.TryFault.{TryFault}
@@ -12,7 +11,7 @@ use Rattle.pipe_turns.specs.Log.{calls_of}
 use Rattle.pipe_turns.specs.Turns.{Refuses}
 use Rattle.pipe_shared.specs.Ends.{Writer}
 use Rattle.pipe_shared.specs.Granting.{FindsFull}
-use Rattle.pipe_shared.specs.Local.{Local, IsFull}
+use Rattle.pipe_shared.specs.Local.{Local, LocalFindsFull}
 use Rattle.relay_engine.specs.Filling.{Drafting}
 use Rattle.relay_engine.specs.Tally.{no_tally, tally_of}
 
@@ -40,15 +39,15 @@ RefusesWriter fault old new = Refuses fault old.seat new.seat
 abbrev pub FindsNoRoom : CellState Name → Full → Writer → Writer → Type 0
 FindsNoRoom pipe full old new = FindsFull pipe.name.options 1 full old new
 
--- ---- a pipe for one thread, whose writer goes on: it drafts in one segment
+-- ---- a pipe for one thread, whose writer goes on
 
 abbrev pub IsUnended : Unit {0} → Local → Type 0
 IsUnended pipe p = IsNone p.pipe.control.ended
 
 abbrev pub local_drafting : Local → Drafting
 local_drafting p = record {
-  draft = run_in 0 p.pipe.bytes.draft;
-  room = length p.pipe.bytes.free;
+  draft = p.draft;
+  room = length p.free;
   tally = no_tally;
   reading = Some (record { lent = p.pipe.control.lent; gone = p.pipe.control.gone });
 }
@@ -56,5 +55,5 @@ local_drafting p = record {
 abbrev pub local_options : Unit {0} → Local → Options
 local_options pipe p = p.options
 
-abbrev pub IsLocalFull : Unit {0} → LocalFull → Local → Local → Type 0
-IsLocalFull pipe full old new = IsFull 1 full old × (new ≡ old)
+abbrev pub IsLocalFull : Unit {0} → Full → Local → Local → Type 0
+IsLocalFull pipe full old new = LocalFindsFull 1 full old × (new ≡ old)

@@ -61,6 +61,10 @@ fn tell_bad_frame<E: Sink>(faults: &mut E, place: u64, kind: BadKind) -> Result<
             let at = digits.format(at).as_bytes();
             write_pieces(faults, &[b"bad frame at ", place, b": byte ", at, b"\n"])
         }
+        BadKind::BadHead { bytes } => {
+            let bytes = digits.format(bytes).as_bytes();
+            write_pieces(faults, &[b"bad frame at ", place, b": head ", bytes, b"\n"])
+        }
     }
 }
 

@@ -3,12 +3,13 @@
 use crate::drain_pipe::DrainPipe;
 use pipe_core::ReadReply;
 use pipe_shared::{LocalPipe, TryFault};
+use pipe_state::Chain;
 use span_seq::Sequence;
 
 impl DrainPipe for LocalPipe {
     type Pipe = ();
 
-    type Lent = LocalPipe;
+    type Lent = Chain;
 
     ghost use Rattle.relay_engine.specs.ReaderEnds.{IsAttended, aside_local, lent_local, local_tally};
     ghost use Rattle.relay_engine.specs.LocalEnds.{HoldsLocal, NoOthers, RefusesNone};
@@ -34,7 +35,7 @@ impl DrainPipe for LocalPipe {
         Ok(reply)
     }
 
-    fn lent(&self) -> Sequence<'_, LocalPipe> {
+    fn lent(&self) -> Sequence<'_, Chain> {
         self.lent()
     }
 

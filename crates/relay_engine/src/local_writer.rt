@@ -3,14 +3,14 @@
 use crate::fill_pipe::{FillPipe, NoRoom};
 use crate::reading::read_into;
 use edge_core::Source;
-use pipe_core::{FlushReply, bytes_of_one_segment};
-use pipe_shared::{LocalFull, LocalPipe, LocalRoomFault, TryFault, local_segments_have_a_byte};
+use pipe_core::FlushReply;
+use pipe_shared::{Full, LocalPipe, LocalRoomFault, TryFault, local_segments_have_a_byte};
 use relay_model::FillEnd;
 
 impl FillPipe for LocalPipe {
     type Pipe = ();
 
-    type Full = LocalFull;
+    type Full = Full;
 
     ghost use Rattle.relay_engine.specs.WriterEnds.{IsLocalFull, IsUnended, local_drafting, local_options};
     ghost use Rattle.relay_engine.specs.LocalEnds.{HoldsLocal, NoOthers, RefusesNone};
@@ -31,7 +31,7 @@ impl FillPipe for LocalPipe {
 
     ghost others_write_nothing = { λ call is. absurd is };
 
-    fn room(&mut self, _pipe: &()) -> Result<(), NoRoom<LocalFull>> {
+    fn room(&mut self, _pipe: &()) -> Result<(), NoRoom<Full>> {
         local_segments_have_a_byte(self);
         match self.room(1) {
             Ok(_) => Ok(()),
@@ -51,7 +51,6 @@ impl FillPipe for LocalPipe {
     }
 
     fn commit(&mut self, _pipe: &()) -> Result<FlushReply, TryFault> {
-        bytes_of_one_segment();
         match self.flush() {
             Ok((reply, _)) => Ok(reply),
             Err(_) => unreachable!(),

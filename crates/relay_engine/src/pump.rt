@@ -6,15 +6,14 @@ ghost use Rattle.frame_model.specs.Spelling.{longest_frame};
 ghost use Rattle.relay_model.specs.Run.{IsReported, StopsInTime};
 ghost use Rattle.pipe_core.specs.History.{Call, EndWriter};
 ghost use Rattle.pipe_core.specs.Answers.{Woke};
-ghost use Rattle.pipe_core.specs.Pipe.{HoldsFor};
 ghost use Rattle.pipe_core.specs.Standing.{AreThresholds};
 ghost use Rattle.pipe_core.specs.declared.reply.Wake.{Wake};
-ghost use Rattle.pipe_state.specs.Options.{first_bad, room_of};
+ghost use Rattle.pipe_state.specs.Options.{first_bad};
 ghost use Rattle.pipe_shared.specs.Local.{LocalAnswers};
 ghost use Rattle.relay_engine.specs.Filling.{HasTaken};
 ghost use Rattle.relay_engine.specs.WriterEnds.{local_drafting};
 ghost use Rattle.relay_engine.specs.LocalEnds.{HoldsLocal};
-ghost use Rattle.relay_engine.specs.Pump.{FillsLocal, options_for};
+ghost use Rattle.relay_engine.specs.Pump.{FillsLocal, options_for, sure_room_of};
 
 use crate::draining::{Draining, Progress};
 use crate::ending::outcome_of;
@@ -24,7 +23,9 @@ use edge_core::{Sink, Source};
 use frame_grammar::{Job, segments_of};
 use pipe_core::never_both;
 use pipe_shared::{LocalPipe, MakeError, Options};
+use pipe_state::numbered_blocks_fit;
 use relay_model::{FillEnd, Report};
+use seg_block::own_blocks;
 use std::alloc::{AllocError, Global};
 
 /// Relays a source to a sink, and reports how that ended. It takes its memory before the first read, and want of it is the
@@ -44,13 +45,27 @@ pub fn pump_local<S: Source, K: Sink>(
     ensures sink_untouched { OnErr result (K.state sink.new ≡ K.state sink.old) }
     ensures in_time { StopsInTime job.now (S.state source.old) (S.state source.new) }
 {
-    match LocalPipe::make(alloc, options_of(job)) {
-        Ok(pipe) => {
-            let mut pipe = pipe;
-            Ok(pump(job, &mut pipe, source, sink))
-        }
-        Err(MakeError::OutOfMemory) => Err(AllocError),
-        Err(MakeError::BadOptions { .. }) => unreachable!(),
+    let mut pipe = make_pipe(alloc, job)?;
+    Ok(pump(job, &mut pipe, source, sink))
+}
+
+/// The pipe of a relay. Want of memory is the one refusal.
+fn make_pipe(alloc: Global, job: &Job) -> Result<LocalPipe, AllocError>
+    requires { IsInRange job.now }
+    ensures options { IfOk result (λ pipe. pipe.options ≡ options_for job.now) }
+    ensures holds { IfOk result (λ pipe. HoldsLocal pipe []) }
+    ensures draft { IfOk result (λ pipe. pipe.draft ≡ []) }
+    ensures room { IfOk result (λ pipe. longest_frame job.now.input job.now.max ≤ sure_room_of pipe.options) }
+{
+    let options = options_of(job);
+    let blocks = own_blocks(alloc, options.segments, options.segment)?;
+    numbered_blocks_fit();
+    match LocalPipe::make(alloc, options, blocks) {
+        Ok(pipe) => Ok(pipe),
+        Err(refused) => match refused.error {
+            MakeError::OutOfMemory => Err(AllocError),
+            MakeError::BadOptions { .. } => unreachable!(),
+        },
     }
 }
 
@@ -60,8 +75,7 @@ pub fn options_of(job: &Job) -> Options
     requires { IsInRange job.now }
     ensures options { result ≡ options_for job.now }
     ensures good { first_bad result ≡ None }
-    ensures size { result.segments * result.segment ≤ 2 ^ 31 }
-    ensures room { longest_frame job.now.input job.now.max ≤ room_of result }
+    ensures room { longest_frame job.now.input job.now.max ≤ sure_room_of result }
 {
     Options {
         segment: job.seg,
@@ -74,9 +88,9 @@ pub fn options_of(job: &Job) -> Options
 /// Relays a source to a sink through a pipe that is new.
 fn pump<S: Source, K: Sink>(job: &Job, pipe: &mut LocalPipe, source: &mut S, sink: &mut K) -> Report
     requires range { IsInRange job.now }
-    requires stands { HoldsFor pipe.old.pipe [] }
-    requires draft { pipe.old.pipe.bytes.draft ≡ [] }
-    requires room { longest_frame job.now.input job.now.max ≤ room_of pipe.old.options }
+    requires stands { HoldsLocal pipe.old [] }
+    requires draft { pipe.old.draft ≡ [] }
+    requires room { longest_frame job.now.input job.now.max ≤ sure_room_of pipe.old.options }
     requires thresholds { AreThresholds pipe.old.options.pause pipe.old.options.resume }
     requires segment { pipe.old.options.segment ≡ job.now.seg }
     ensures reported { IsReported job.now result (S.state source.old) (S.state source.new) (K.state sink.old) (K.state sink.new) }
@@ -116,7 +130,7 @@ fn fill_once<S: Source>(
     ensures fills { (h : List Call) (bytes : List ℕ) → HasTaken HoldsLocal local_drafting filling.old pipe.old h bytes →
         FillsLocal filling.old pipe.old (S.state source.old) result filling.new pipe.new (S.state source.new) h bytes }
     ensures options { pipe.new.options ≡ pipe.old.options }
-    ensures draft { pipe.new.pipe.bytes.draft ≡ [] }
+    ensures draft { pipe.new.draft ≡ [] }
     ensures limit { filling.new.limit ≡ filling.old.limit }
     ensures within { filling.new.taken ≤ filling.new.limit }
     ensures one_read { filling.new.taken ≤ filling.old.taken + pipe.old.options.segment }
@@ -138,11 +152,12 @@ fn fill_once<S: Source>(
 /// Completes the writer, which has drafted nothing.
 fn complete(pipe: &mut LocalPipe, code: u32)
     requires open { IsNone pipe.old.pipe.control.ended }
-    requires settled { pipe.old.pipe.bytes.draft ≡ [] }
+    requires settled { pipe.old.draft ≡ [] }
     requires small { pipe.old.pipe.control.committed ≤ 2 ^ 62 }
     ensures completes { (wake : Wake) × LocalAnswers pipe.old (EndWriter code ∷ []) (Woke wake) pipe.new }
+    ensures hint { pipe.new.hint ≡ 0 }
     ensures options { pipe.new.options ≡ pipe.old.options }
-    ensures draft { pipe.new.pipe.bytes.draft ≡ [] }
+    ensures draft { pipe.new.draft ≡ [] }
     ensures gone { pipe.new.pipe.control.gone ≡ pipe.old.pipe.control.gone }
     ensures lent { pipe.new.pipe.control.lent ≡ pipe.old.pipe.control.lent }
 {

@@ -8,3 +8,7 @@ returns-in-TooBig g c =
 pub returns-in-Unspellable : goal.returns-in-Unspellable
 returns-in-Unspellable g c =
     rw c.in-Unspellable.is (rw (c.as_bytes-place.ensures.value, c.format.ensures.text, c.as_bytes-at.ensures.value, c.format-in-Unspellable.ensures.text) at c.write_pieces-in-Unspellable.ensures)
+
+pub returns-in-BadHead : goal.returns-in-BadHead
+returns-in-BadHead g c =
+    rw c.in-BadHead.is (rw (c.as_bytes-place.ensures.value, c.format.ensures.text, c.as_bytes-bytes.ensures.value, c.format-in-BadHead.ensures.text) at c.write_pieces-in-BadHead.ensures)

@@ -8,8 +8,8 @@ use Rattle.relay_engine.proofs.pump.pump.Goals as goal
 pub loop-filling-init : goal.loop-filling-init
 loop-filling-init g c = record {
   pumps = starts _ _ _ _ _ _ c.new-filling.ensures c.new-draining.ensures c.requires.stands c.requires.draft c.requires.room c.requires.thresholds c.requires.segment;
-  attended = rw (c.requires.stands.marks.gone) refl;
-  no_lend = c.requires.stands.marks.lent;
+  attended = rw (c.requires.stands.runs.marks.gone) refl;
+  no_lend = c.requires.stands.runs.marks.lent;
 }
 
 pub loop-filling-smaller-in-Ok-Moved : goal.loop-filling-smaller-in-Ok-Moved

@@ -1,22 +1,12 @@
--- The call of the pipe inside, as it is seen.
-use Rattle.std.proofs.Common.{[], ◌∷◌, sym, ap, ◌∙◌, length}
-use Rattle.pipe_core.specs.History.{Advance}
+-- Where a lend stands there is a reader.
+use Rattle.std.proofs.Common.{sym, subst}
+use Rattle.std.specs.Prelude.{IsSome}
 use Rattle.pipe_shared.specs.Local.{Local}
-use Rattle.pipe_shared.proofs.LocalLemmas.{local_answers, local_advance, granted_len}
+use Rattle.pipe_shared.proofs.LocalLemmas.{lending_attends, may_advance_lent, reader_is_there}
 use Rattle.pipe_shared.proofs.local.LocalPipe.advance.Goals as goal
 
-pub returns-clause-answers : goal.returns-clause-answers
-returns-clause-answers c =
-    let p = c.self.inside in
-    rw (← c.self.view_is) (local_answers p.options p.plain c.advance.new.self p.granted p.granted (Advance c.args.c c.args.e ∷ []) _ c.self.invariant c.advance.ensures.answers)
-
-pub returns-clause-free : goal.returns-clause-free
-returns-clause-free c =
-    let p = c.self.inside in
-    let l = local_advance p.options p.plain c.advance.new.self p.granted c.args.c c.args.e _ c.self.invariant c.advance.ensures.answers c.advance.ensures.draft in
-    granted_len p.options c.advance.new.self p.granted l ∙ sym (granted_len p.options p.plain p.granted c.self.invariant) ∙ ap (λ (x : Local). length x.pipe.bytes.free) c.self.view_is
-
-pub invariant_of-self : goal.invariant_of-self
-invariant_of-self c =
-    let p = c.self.inside in
-    local_advance p.options p.plain c.advance.new.self p.granted c.args.c c.args.e _ c.self.invariant c.advance.ensures.answers c.advance.ensures.draft
+pub unreachable-requires : goal.unreachable-requires
+unreachable-requires c =
+    let l = c.self.invariant in
+    let some = subst (λ (p : Local). IsSome p.pipe.control.lent) (sym c.self.view_is) (may_advance_lent _ c.args.c c.args.e c.requires) in
+    reader_is_there _ _ _ (lending_attends c.self.inside.state l.history.h l.history.holds some) c.in-None.is l.reader

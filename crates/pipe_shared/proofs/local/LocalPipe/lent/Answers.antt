@@ -1,34 +1,31 @@
--- The lend is the one span.
-use Rattle.std.proofs.Common.{◌≡◌, ℕ, List, [], ◌∷◌, ap, sym, ◌∙◌, arith, Some}
-use Rattle.std.specs.Prelude.{unwrap_or, take}
-use Rattle.std.proofs.lemmas.List.{length-take}
-use Rattle.span_seq.specs.Spans.{Part, bytes_of, whole_of}
-use Rattle.span_seq.specs.Sequence as Sequence
-use Rattle.pipe_core.proofs.PipeLemmas.{lent_is}
-use Rattle.pipe_shared.specs.Local.{lent_span}
-use Rattle.pipe_shared.proofs.SpanLemmas.{one_span, one_size}
-use Rattle.pipe_shared.proofs.LocalLemmas.{part}
+-- The lend lies in the reader's chain.
+use Rattle.std.proofs.Common.{Some, ap, sym, subst, ◌∙◌, length}
+use Rattle.pipe_state.specs.Held.{HoldsRuns}
+use Rattle.pipe_shared.specs.Local.{Local}
+use Rattle.pipe_shared.proofs.LocalLemmas.{lending_attends, lends_in, lent_fits, lent_for_each, lent_length, reader_is_there, reads_by}
 use Rattle.pipe_shared.proofs.local.LocalPipe.lent.Goals as goal
-
-whole : (c : goal.After-whole) → bytes_of (Sequence.part c.whole.result) ≡ lent_span c.args.self.now
-whole c = ap (λ (p : Part). bytes_of p) c.whole.ensures.part ∙ one_span (lent_span c.args.self.now)
 
 pub whole-requires : goal.whole-requires
 whole-requires c =
-    let p = c.self.inside.plain in
+    let p = c.self.inside in
+    lent_fits p.state c.in-Some.reading (reads_by p.state p.reading c.in-Some.reading c.in-Some.is c.self.invariant.history) (lends_in p.state c.args.self.now (ap (λ (x : Local). x.pipe) c.self.view_is) c.requires)
+
+pub unreachable-requires : goal.unreachable-requires
+unreachable-requires c =
     let l = c.self.invariant in
-    rw (← c.self.view_is) (omega (arith, one_size (take (unwrap_or p.control.lent 0) p.bytes.held), length-take (unwrap_or p.control.lent 0) p.bytes.held, l.room, l.small))
+    let p = c.self.inside in
+    reader_is_there _ _ _ (lending_attends p.state l.history.h l.history.holds (lends_in p.state c.args.self.now (ap (λ (x : Local). x.pipe) c.self.view_is) c.requires)) c.in-None.is l.reader
 
 pub returns-clause-bytes : goal.returns-clause-bytes
-returns-clause-bytes c h s = (lent_is c.args.self.now.pipe h s c.requires).0 ∙ ap Some (sym (whole c))
+returns-clause-bytes c h holds =
+    let p = c.self.inside in
+    lent_for_each p.state c.in-Some.reading (reads_by p.state p.reading c.in-Some.reading c.in-Some.is c.self.invariant.history) (lends_in p.state c.args.self.now (ap (λ (x : Local). x.pipe) c.self.view_is) c.requires) h
+    (subst (λ (x : Local). HoldsRuns x.pipe h) (sym c.self.view_is) holds)
+    ∙ ap Some (sym c.whole.ensures.bytes)
 
 pub returns-clause-len : goal.returns-clause-len
 returns-clause-len c =
     let p = c.self.inside in
-    let l = c.self.invariant in
-    let stands = part p.plain (take p.granted p.plain.bytes.free) l.history.0 l.history.1 in
-    let some = rw (← c.self.view_is) at c.requires in
-    rw (whole c, ← c.self.view_is) (lent_is _ l.history.0 stands some).1
-
-pub returns-clause-one_span : goal.returns-clause-one_span
-returns-clause-one_span c = c.whole.ensures.part ∙ ap (λ (xs : List ℕ). whole_of (xs ∷ [])) (sym (whole c))
+    ap (λ (x : Local). x.pipe.control.lent) (sym c.self.view_is)
+    ∙ lent_length p.state c.in-Some.reading (reads_by p.state p.reading c.in-Some.reading c.in-Some.is c.self.invariant.history) (lends_in p.state c.args.self.now (ap (λ (x : Local). x.pipe) c.self.view_is) c.requires)
+    ∙ ap (λ xs. Some (length xs)) (sym c.whole.ensures.bytes)

@@ -1,5 +1,5 @@
 use Rattle.turn_cell.specs.Seat.{IsOf}
-use Rattle.pipe_rows.proofs.at_least.write_segments.Given as goal
+use Rattle.pipe_rows.proofs.at_least.write_on.Given as goal
 
 abbrev pub invariant-loop : goal.invariant-loop
 invariant-loop g l = IsOf l.pipe l.w.seat

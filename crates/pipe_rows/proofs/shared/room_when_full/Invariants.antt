@@ -1,5 +1,0 @@
-use Rattle.turn_cell.specs.Seat.{IsOf}
-use Rattle.pipe_rows.proofs.shared.room_when_full.Given as goal
-
-abbrev pub invariant-loop : goal.invariant-loop
-invariant-loop g l = IsOf l.pipe l.w.seat
