@@ -1,1 +1,2 @@
 pub mod NewEnds
+pub mod Rented

@@ -1,23 +1,27 @@
 //! A relay on two threads.
 
-ghost use Rattle.std.specs.Prelude.{◌≡◌, ◌*◌, ◌^◌, ◌≤◌, None, Some, IfOk, OnErr};
+ghost use Rattle.std.specs.Prelude.{◌≡◌, ◌*◌, ◌^◌, ◌≤◌, ℕ, [], None, Some, IfOk, OnErr};
 ghost use Rattle.turn_cell.specs.Seat.{IsIdle, IsOf, new_seat};
 ghost use Rattle.frame_grammar.specs.Job.{IsInRange};
 ghost use Rattle.pipe_shared.specs.declared.pipe.Closed.{Closed};
 ghost use Rattle.pipe_shared.specs.Made.{ClosesPipe};
-ghost use Rattle.pipe_state.specs.Options.{first_bad};
+ghost use Rattle.pipe_state.specs.Segments.{AreSized};
+ghost use Rattle.seg_block.specs.Numbered.{times};
+ghost use Rattle.seg_pool.specs.Words.{Adds, IsOf as IsPassOf, Removes};
 ghost use Rattle.relay_engine.specs.Sides.{HasDrained, HasFilled};
 ghost use Rattle.relay_engine.specs.Pump.{options_for};
 ghost use Rattle.relay_engine.specs.Pumped.{HasPumped};
 ghost use Rattle.relay_threads.specs.NewEnds.{new_reader, new_writer};
+ghost use Rattle.relay_threads.specs.Rented.{ids_named};
 
 use edge_core::{Sink, Source};
 use frame_grammar::Job;
-use pipe_shared::{Canceller, Made, MakeError, Pipe, ReaderDone, ReaderEnd, WriterDone, WriterEnd};
-use pipe_state::numbered_blocks_fit;
+use pipe_shared::{
+    Canceller, Made, MakeError, MakeRefused, Pipe, ReaderDone, ReaderEnd, WriterDone, WriterEnd,
+};
 use relay_engine::{DrainEnd, Drainer, Filler, drain, fill, options_of, outcome_of};
 use relay_model::{FillEnd, Report};
-use seg_block::own_blocks;
+use seg_pool::{Pool, PoolPass, nothing_is_out};
 use std::alloc::{AllocError, Global};
 use std::sync::Wait;
 use std::thread::{Threads, join_mut};
@@ -43,8 +47,9 @@ type DrainedSide = (DrainEnd, ReaderDone, u64, u64);
 /// takes bytes from the source into the pipe, and a new one writes the frames of what the pipe lends to the sink: the two
 /// tasks that .NET's guide to pipelines starts and awaits by `Task.WhenAll`.
 ///
-/// It makes its pipe before the first read. Want of memory for that is the one refusal, by which nothing is read or written;
-/// the options of a job in range are never bad.
+/// It rents the segments of its pipe before the first read, and they are out with the pass until `settle` gives them back.
+/// Want of memory for them or for the pipe is the one refusal: nothing is read or written, and what was rented is given back.
+/// The options of a job in range are never bad.
 ///
 /// It waits for its devices, and its sides for each other: the one that fills while the pipe has no room, or while `pause`
 /// bytes or more are unexamined until fewer than `resume` are, and the one that drains while nothing is committed that it
@@ -57,8 +62,12 @@ pub fn pump<R: Wait + Threads + Sync, S: Source + Send, K: Sink + Send>(
     source: &mut S,
     sink: &mut K,
     job: &Job,
+    pool: &Pool,
+    pass: &mut PoolPass,
 ) -> Result<Pumped, AllocError>
-    requires { IsInRange job.now }
+    requires range { IsInRange job.now }
+    requires pool { IsPassOf pool.now pass.old }
+    requires segment { pool.now.segment ≡ job.now.seg }
     ensures options { IfOk result (λ done. done.pipe.name.options ≡ options_for job.now) }
     ensures writer { IfOk result (λ done. IsOf done.pipe done.writer) }
     ensures reader { IfOk result (λ done. IsOf done.pipe done.reader) }
@@ -67,8 +76,12 @@ pub fn pump<R: Wait + Threads + Sync, S: Source + Send, K: Sink + Send>(
         HasPumped job.now done.report done.writer done.reader (S.state source.old) (S.state source.new) (K.state sink.old) (K.state sink.new)) }
     ensures source_untouched { OnErr result (S.state source.new ≡ S.state source.old) }
     ensures sink_untouched { OnErr result (K.state sink.new ≡ K.state sink.old) }
+    ensures pool { IsPassOf pool.now pass.new }
+    ensures rented { IfOk result (λ done. Adds pass.old.books (ids_named done.pipe.name.blocks) pass.new.books) }
+    ensures sized { IfOk result (λ done. AreSized pool.now.segment done.pipe.name.blocks) }
+    ensures given_back { OnErr result (Adds pass.old.books [] pass.new.books) }
 {
-    let (pipe, writer, reader, canceller) = make_pipe(alloc, job)?;
+    let (pipe, writer, reader, canceller) = rent_pipe(rt, alloc, job, pool, pass)?;
     let (filled, drained) = run_both(rt, &pipe, writer, reader, source, sink, job);
     let (taking, writer, taken) = filled;
     let (writing, reader, frames, written) = drained;
@@ -87,16 +100,21 @@ pub fn pump<R: Wait + Threads + Sync, S: Source + Send, K: Sink + Send>(
     })
 }
 
-/// Closes the pipe of a relay whose sides have both ended, and gives its memory back, as .NET's `Pipe` does once both its ends
-/// have completed. The report is then one of a run, by `settled_pump_is_reported`.
+/// Closes the pipe of a relay whose sides have both ended, and gives its segments back, as .NET's `Pipe` does once both its
+/// ends have completed. The report is then one of a run, by `settled_pump_is_reported`.
 ///
-/// It doesn't wait, and takes no memory.
-pub fn settle(done: Pumped) -> Report
+/// It may spin while another thread is in the middle of a step of the pool, and takes no memory.
+pub fn settle<R: Wait>(rt: &R, done: Pumped, pool: &Pool, pass: &mut PoolPass) -> Report
     requires writer { IsOf done.pipe done.writer }
     requires reader { IsOf done.pipe done.reader }
     requires canceller { IsOf done.pipe done.canceller }
+    requires pool { IsPassOf pool.now pass.old }
+    requires out { (id : ℕ) → times id (ids_named done.pipe.name.blocks) ≤ times id pass.old.books.out }
+    requires sized { AreSized pool.now.segment done.pipe.name.blocks }
     ensures report { result ≡ done.report }
     ensures closes { (closed : Closed) × ClosesPipe done.pipe.name.blocks done.writer done.reader done.canceller closed }
+    ensures pool { IsPassOf pool.now pass.new }
+    ensures given_back { Removes pass.old.books (ids_named done.pipe.name.blocks) pass.new.books }
 {
     let Pumped {
         report,
@@ -105,27 +123,43 @@ pub fn settle(done: Pumped) -> Report
         reader,
         canceller,
     } = done;
-    let _carried = pipe.close(writer, reader, canceller);
+    let carried = pipe.close(writer, reader, canceller);
+    pool.give_all(rt, pass, carried.blocks);
     report
 }
 
-/// The pipe of a relay. Want of memory is the one refusal.
-fn make_pipe(alloc: Global, job: &Job) -> Result<Made, AllocError>
-    requires { IsInRange job.now }
-    ensures pipe { IfOk result (λ made. made.0.name.options ≡ options_for job.now) }
+/// The pipe of a relay, of rented segments. Where there is no memory for it they are given back.
+fn rent_pipe<R: Wait>(
+    rt: &R,
+    alloc: Global,
+    job: &Job,
+    pool: &Pool,
+    pass: &mut PoolPass,
+) -> Result<Made, AllocError>
+    requires range { IsInRange job.now }
+    requires pool { IsPassOf pool.now pass.old }
+    requires segment { pool.now.segment ≡ job.now.seg }
+    ensures options { IfOk result (λ made. made.0.name.options ≡ options_for job.now) }
     ensures writer { IfOk result (λ made. made.1 ≡ new_writer made.0) }
     ensures reader { IfOk result (λ made. made.2 ≡ new_reader made.0) }
     ensures canceller { IfOk result (λ made. made.3 ≡ new_seat made.0 2) }
+    ensures pool { IsPassOf pool.now pass.new }
+    ensures rented { IfOk result (λ made. Adds pass.old.books (ids_named made.0.name.blocks) pass.new.books) }
+    ensures sized { IfOk result (λ made. AreSized pool.now.segment made.0.name.blocks) }
+    ensures given_back { OnErr result (Adds pass.old.books [] pass.new.books) }
 {
+    nothing_is_out();
     let options = options_of(job);
-    let blocks = own_blocks(alloc, options.segments, options.segment)?;
-    numbered_blocks_fit();
+    let blocks = pool.rent_all(rt, alloc, pass, options.segments)?;
     match Pipe::make(alloc, options, blocks) {
         Ok(made) => Ok(made),
-        Err(refused) => match refused.error {
-            MakeError::OutOfMemory => Err(AllocError),
-            MakeError::BadOptions { .. } => unreachable!(),
-        },
+        Err(MakeRefused { error, blocks }) => {
+            pool.give_all(rt, pass, blocks);
+            match error {
+                MakeError::OutOfMemory => Err(AllocError),
+                MakeError::BadOptions { .. } => unreachable!(),
+            }
+        }
     }
 }
 

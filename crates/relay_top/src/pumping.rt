@@ -5,14 +5,15 @@ ghost use Rattle.frame_grammar.specs.Job.{IsInRange};
 ghost use Rattle.relay_model.specs.Run.{IsReported};
 
 use edge_core::{Sink, Source};
-use frame_grammar::Job;
+use frame_grammar::{Job, segments_of};
 use relay_model::Report;
 use relay_threads::{pump, settle, settled_pump_is_reported};
+use seg_pool::Pool;
 use std::alloc::{AllocError, Global};
 use std::sync::Wait;
 use std::thread::Threads;
 
-/// Relays as the job says, on two threads, and closes the pipe.
+/// Relays as the job says, on two threads, over a pool that keeps the segments of one pipe, and closes the pipe.
 pub(crate) fn pump_and_settle<R: Wait + Threads + Sync, S: Source + Send, K: Sink + Send>(
     rt: &R,
     alloc: Global,
@@ -26,6 +27,7 @@ pub(crate) fn pump_and_settle<R: Wait + Threads + Sync, S: Source + Send, K: Sin
     ensures sink_untouched { OnErr result (K.state sink.new ≡ K.state sink.old) }
 {
     settled_pump_is_reported();
-    let done = pump(rt, alloc, source, sink, job)?;
-    Ok(settle(done))
+    let (pool, mut pass) = Pool::make(alloc, segments_of(job), job.seg)?;
+    let done = pump(rt, alloc, source, sink, job, &pool, &mut pass)?;
+    Ok(settle(rt, done, &pool, &mut pass))
 }

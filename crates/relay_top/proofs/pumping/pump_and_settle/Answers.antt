@@ -1,6 +1,10 @@
 -- The pipe is closed, so the report is that of a run.
+use Rattle.std.proofs.Common.{arith}
 use Rattle.relay_top.proofs.CommandLemmas.{the_report}
 use Rattle.relay_top.proofs.pumping.pump_and_settle.Goals as goal
+
+pub settle-requires-clause-out : goal.settle-requires-clause-out
+settle-requires-clause-out g c = λ id. let more = c.in_ok-done.ensures.rented.out id in omega (arith, more)
 
 pub returns-clause-reported : goal.returns-clause-reported
 returns-clause-reported g c =
