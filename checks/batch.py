@@ -211,8 +211,8 @@ def traced(folder, words):
         return calls.read().splitlines()
 
 
-def system_calls(segments, segment=4096, piece=8192):
-    """A read a segment and one at the end, a write for 8 KiB of frames and one at the end of each segment, and few other calls."""
+def system_calls(segments, segment=4096, piece=32768):
+    """A read a segment and one at the end, a write for 32 KiB of frames and one at the end of each segment, and few other calls."""
     lines = segments * segment // 2
     with tempfile.TemporaryDirectory() as folder:
         write_files(folder, {"lines": b"x\n" * lines})

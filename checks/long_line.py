@@ -1,4 +1,4 @@
-"""Copies a line of 4 MB and one of 16 MB, each as long as may be, and compares the times that the processor takes.
+"""Copies a line of 4 MB and one of 32 MB, each as long as may be, and compares the times that the processor takes.
 
 usage: long_line.py PROGRAM
 """
@@ -9,9 +9,11 @@ import sys
 import tempfile
 
 MEGABYTE = 1 << 20
-SHORT, LONG = 4, 16  # megabytes
+SHORT, LONG = 4, 32  # megabytes
 RUNS = 5
-MOST = 6  # the greatest ratio; a search from the front at each read comes to about 16
+# The greatest ratio. Work that is linear comes to some 8 to 12, by what the caches hold, and a search from the front at each
+# read to about 64.
+MOST = 24
 
 
 def processor_time(megabytes):

@@ -13,7 +13,13 @@ use span_seq::{Sequence, Spans};
 use std::marker::Model;
 
 /// How many bytes are gathered at most.
-const ROOM: usize = 8_192;
+const ROOM: usize = 32_768;
+
+/// A piece of so many bytes is handed on from where it lies: a call of the sink costs less than to copy it.
+const LARGE: usize = 16_384;
+
+/// A whole payload of so many bytes is left to the call that puts piece by piece.
+const LONG: u64 = 4_096;
 
 /// How many bytes at the front of some others were passed over, in how many frames, and in how many bytes these were put.
 /// Where lines come in, so many bytes behind them are known to have no line feed.
@@ -42,7 +48,7 @@ impl Model for Gathering {
 
     ghost view = { λ g. record { bytes = take g.len g.room; passed = g.passed } };
 
-    ghost invariant = { λ g. g.len ≤ 8192 };
+    ghost invariant = { λ g. g.len ≤ 32768 };
 }
 
 impl Gathering {
@@ -72,7 +78,7 @@ impl Gathering {
         self.passed
     }
 
-    /// Puts a piece behind what is gathered. One of half the room or more is handed on in place.
+    /// Puts a piece behind what is gathered. A large one is handed on in place.
     #[inline(always)]
     pub fn put<K: Sink>(&mut self, sink: &mut K, piece: &[u8]) -> Result<(), Failed>
         ensures put { OnOk result (Puts self.old (K.state sink.old) piece.now self.new (K.state sink.new)) }
@@ -82,7 +88,7 @@ impl Gathering {
         if piece.len() == 0 {
             return Ok(());
         }
-        if piece.len() <= (ROOM - self.len).min(ROOM / 2 - 1) {
+        if piece.len() <= (ROOM - self.len).min(LARGE - 1) {
             self.append(piece);
             return Ok(());
         }
@@ -96,7 +102,7 @@ impl Gathering {
         ensures put { OnOk result (Puts self.old (K.state sink.old) piece.now self.new (K.state sink.new)) }
         ensures failed { OnErr result (PutsFront self.old (K.state sink.old) piece.now self.new (K.state sink.new)) }
     {
-        if piece.len() >= ROOM / 2 {
+        if piece.len() >= LARGE {
             self.write_out(sink)?;
             return self.hand_on(sink, piece);
         }
@@ -172,7 +178,7 @@ impl Gathering {
     // Takes a piece for which there is room.
     #[inline(always)]
     fn append(&mut self, piece: &[u8])
-        requires { length self.old.bytes + length piece.now ≤ 8192 }
+        requires { length self.old.bytes + length piece.now ≤ 32768 }
         ensures { self.new ≡ record { bytes = self.old.bytes ++ piece.now; passed = self.old.passed } }
     {
         copy_at(&mut self.room, self.len, piece);
@@ -185,7 +191,7 @@ impl Gathering {
 fn copied_at_most(max: u64) -> u64
     ensures { result ≡ min max 4095 }
 {
-    max.min(ROOM as u64 / 2 - 1)
+    max.min(LONG - 1)
 }
 
 // Writes a piece behind so many bytes, and answers how many there are then.

@@ -7,12 +7,12 @@ pub returns-in_err-write_out-clause-failed : goal.returns-in_err-write_out-claus
 returns-in_err-write_out-clause-failed g c =
     on_err c.from_residual.result (front_before _ _ _ _ [] c.args.piece.now c.in_err-write_out.ensures.failed)
 
-pub returns-then-piece-clause-put : goal.returns-then-piece-clause-put
-returns-then-piece-clause-put g c =
+pub returns-then-piece-ge-LARGE-clause-put : goal.returns-then-piece-ge-LARGE-clause-put
+returns-then-piece-ge-LARGE-clause-put g c =
     on_ok_from c.hand_on.result (puts_more _ _ _ _ _ _ [] c.args.piece.now c.in_ok-write_out.ensures.put) c.hand_on.ensures.put
 
-pub returns-then-piece-clause-failed : goal.returns-then-piece-clause-failed
-returns-then-piece-clause-failed g c =
+pub returns-then-piece-ge-LARGE-clause-failed : goal.returns-then-piece-ge-LARGE-clause-failed
+returns-then-piece-ge-LARGE-clause-failed g c =
     on_err_from c.hand_on.result (front_last _ _ _ _ _ _ [] c.args.piece.now c.in_ok-write_out.ensures.put) c.hand_on.ensures.failed
 
 pub returns-in_err-write_out-2-clause-failed : goal.returns-in_err-write_out-2-clause-failed
