@@ -120,8 +120,8 @@ fn a_pipe_is_drained_to_its_end(rt: HostRuntime) -> Result<(), Fail> {
     ];
     for (input, failing_call, end, frames, text) in cases {
         let (why, written, sink) = drained(&rt, rt.alloc(), input, failing_call).ok_or("memory")?;
-        assert_eq!(rt; (why, written), (end, frames));
-        assert_eq!(rt; sink.bytes(), text);
+        assert!(rt; (why, written) == (end, frames));
+        assert!(rt; sink.bytes() == text);
     }
     Ok(())
 }
@@ -132,10 +132,7 @@ fn a_drainer_idles_until_a_frame_comes(rt: HostRuntime) -> Result<(), Fail> {
     let (pipe, _, r, _) = made(alloc).ok_or("memory")?;
     let mut sink = sink(alloc, &[])?;
     let mut drainer = Drainer::new(r, &JOB);
-    assert_eq!(rt;
-        step(&mut drainer, &pipe, &mut sink),
-        Some(DrainStep::Idle { examined: 0 })
-    );
-    assert_eq!(rt; (drainer.frames(), drainer.written()), (0, 0));
+    assert!(rt; step(&mut drainer, &pipe, &mut sink) == Some(DrainStep::Idle { examined: 0 }));
+    assert!(rt; (drainer.frames(), drainer.written()) == (0, 0));
     Ok(())
 }

@@ -82,69 +82,132 @@ fn consume(pipe: &Pipe, r: &mut ReaderEnd) -> Option<(u64, Option<u32>)>
     }
 }
 
-fn moved(taken: usize) -> Option<FillStep> {
-    Some(FillStep::Moved { taken })
+/// A step of the filler, or all that is lent is consumed, and what is told.
+#[derive(Clone, Copy)]
+enum Told {
+    Step(FillStep),
+    /// So many bytes were lent, and the writer has ended so.
+    Consumed(u64, Option<u32>),
+    /// So many bytes were taken so far.
+    Taken(u64),
 }
 
-fn paused(unexamined: u64) -> Option<FillStep> {
-    Some(FillStep::Paused { unexamined })
+fn is_told<S: Source>(
+    pipe: &Pipe,
+    filler: &mut Filler,
+    source: &mut S,
+    reader: &mut ReaderEnd,
+    told: Told,
+) -> bool
+    requires filler { IsIdle pipe.now filler.old.end.seat }
+    requires reader { IsOf pipe.now reader.old.seat }
+    ensures filler { IsIdle pipe.now filler.new.end.seat }
+    ensures reader { IsOf pipe.now reader.new.seat }
+{
+    match told {
+        Told::Step(told) => step(pipe, filler, source) == Some(told),
+        Told::Consumed(len, ended) => consume(pipe, reader) == Some((len, ended)),
+        Told::Taken(taken) => filler.taken() == taken,
+    }
 }
 
-fn done(end: FillEnd) -> Option<FillStep> {
-    Some(FillStep::Done(end))
+/// Whether each of these is told in turn.
+fn are_told<S: Source>(
+    pipe: &Pipe,
+    filler: &mut Filler,
+    source: &mut S,
+    reader: &mut ReaderEnd,
+    all: &[Told],
+) -> bool
+    requires filler { IsIdle pipe.now filler.old.end.seat }
+    requires reader { IsOf pipe.now reader.old.seat }
+    ensures filler { IsIdle pipe.now filler.new.end.seat }
+    ensures reader { IsOf pipe.now reader.new.seat }
+{
+    for told in all {
+        if !is_told(pipe, filler, source, reader, *told) {
+            return false;
+        }
+    }
+    true
+}
+
+/// Whether a filler of so many bytes tells these in turn, where a call of its source may fail. None for want of memory.
+fn fills(
+    rt: &HostRuntime,
+    options: Options,
+    limit: u64,
+    source: &mut MemSource,
+    all: &[Told],
+) -> Option<bool> {
+    let (pipe, mut filler, mut reader) = make(rt, options, limit)?;
+    Some(are_told(&pipe, &mut filler, source, &mut reader, all))
+}
+
+fn moved(taken: usize) -> Told {
+    Told::Step(FillStep::Moved { taken })
+}
+
+fn paused(unexamined: u64) -> Told {
+    Told::Step(FillStep::Paused { unexamined })
+}
+
+fn done(end: FillEnd) -> Told {
+    Told::Step(FillStep::Done(end))
 }
 
 #[test]
 fn a_full_pipe_takes_more_once_it_is_read(rt: HostRuntime) -> Result<(), Fail> {
-    let mut source = source(rt.alloc(), 130, &[])?;
-    let (pipe, mut filler, mut reader) = make(&rt, SMALL, 200).ok_or("memory")?;
-    assert_eq!(rt; step(&pipe, &mut filler, &mut source), moved(64));
-    assert_eq!(rt; step(&pipe, &mut filler, &mut source), moved(64));
-    let full = FillStep::Full(Full {
+    let full = Told::Step(FillStep::Full(Full {
         writer: 1,
         waiting: 1,
         reader: 0,
-    });
-    assert_eq!(rt; step(&pipe, &mut filler, &mut source), Some(full));
-    assert_eq!(rt; consume(&pipe, &mut reader), Some((128, None)));
-    assert_eq!(rt; step(&pipe, &mut filler, &mut source), moved(2));
+    }));
+    let all = [
+        moved(64),
+        moved(64),
+        full,
+        Told::Consumed(128, None),
+        moved(2),
+    ];
+    let mut source = source(rt.alloc(), 130, &[])?;
+    assert!(rt; fills(&rt, SMALL, 200, &mut source, &all) == Some(true));
     Ok(())
 }
 
 #[test]
 fn a_paused_filler_asks_again_before_it_reads(rt: HostRuntime) -> Result<(), Fail> {
+    let all = [
+        paused(64),
+        paused(64),
+        Told::Taken(64),
+        Told::Consumed(64, None),
+        moved(1),
+        done(FillEnd::End),
+    ];
     let mut source = source(rt.alloc(), 65, &[])?;
-    let (pipe, mut filler, mut reader) = make(&rt, PAUSING, 65).ok_or("memory")?;
-    assert_eq!(rt; step(&pipe, &mut filler, &mut source), paused(64));
-    assert_eq!(rt; step(&pipe, &mut filler, &mut source), paused(64));
-    assert_eq!(rt; filler.taken(), 64);
-    assert_eq!(rt; consume(&pipe, &mut reader), Some((64, None)));
-    assert_eq!(rt; step(&pipe, &mut filler, &mut source), moved(1));
-    assert_eq!(rt; step(&pipe, &mut filler, &mut source), done(FillEnd::End));
+    assert!(rt; fills(&rt, PAUSING, 65, &mut source, &all) == Some(true));
     Ok(())
 }
 
 #[test]
 fn a_filler_ends_where_a_read_fails(rt: HostRuntime) -> Result<(), Fail> {
+    let all = [
+        moved(64),
+        done(FillEnd::Fault),
+        Told::Taken(64),
+        Told::Consumed(64, Some(4)),
+    ];
     let mut failing = source(rt.alloc(), 65, &[2])?;
-    let (pipe, mut filler, mut reader) = make(&rt, SMALL, 65).ok_or("memory")?;
-    assert_eq!(rt; step(&pipe, &mut filler, &mut failing), moved(64));
-    assert_eq!(rt;
-        step(&pipe, &mut filler, &mut failing),
-        done(FillEnd::Fault)
-    );
-    assert_eq!(rt; filler.taken(), 64);
-    assert_eq!(rt; consume(&pipe, &mut reader), Some((64, Some(4))));
+    assert!(rt; fills(&rt, SMALL, 65, &mut failing, &all) == Some(true));
     Ok(())
 }
 
 #[test]
 fn a_filler_ends_behind_its_limit(rt: HostRuntime) -> Result<(), Fail> {
+    let all = [moved(64), done(FillEnd::Long), Told::Consumed(64, Some(7))];
     let mut longer = source(rt.alloc(), 65, &[])?;
-    let (pipe, mut filler, mut reader) = make(&rt, SMALL, 64).ok_or("memory")?;
-    assert_eq!(rt; step(&pipe, &mut filler, &mut longer), moved(64));
-    assert_eq!(rt; step(&pipe, &mut filler, &mut longer), done(FillEnd::Long));
-    assert_eq!(rt; consume(&pipe, &mut reader), Some((64, Some(7))));
+    assert!(rt; fills(&rt, SMALL, 64, &mut longer, &all) == Some(true));
     Ok(())
 }
 
@@ -153,11 +216,9 @@ fn a_filler_ends_with_the_code_of_a_reader_that_is_gone(rt: HostRuntime) -> Resu
     let mut source = source(rt.alloc(), 65, &[])?;
     let (pipe, mut filler, reader) = make(&rt, SMALL, 65).ok_or("memory")?;
     let _reader = pipe.try_complete_reader(reader, 9).ok().ok_or("free")?;
-    assert_eq!(rt;
-        step(&pipe, &mut filler, &mut source),
-        done(FillEnd::Gone { code: 9 })
-    );
-    assert_eq!(rt; (filler.taken(), filler.is_done()), (64, true));
+    let gone = FillStep::Done(FillEnd::Gone { code: 9 });
+    assert!(rt; step(&pipe, &mut filler, &mut source) == Some(gone));
+    assert!(rt; (filler.taken(), filler.is_done()) == (64, true));
     Ok(())
 }
 
@@ -166,7 +227,7 @@ fn a_whole_side_runs_until_its_source_ends(rt: HostRuntime) -> Result<(), Fail> 
     let mut source = source(rt.alloc(), 100, &[])?;
     let (pipe, filler, mut reader) = make(&rt, SMALL, 100).ok_or("memory")?;
     let (end, _writer, taken) = fill(&rt, &pipe, filler, &mut source);
-    assert_eq!(rt; (end, taken), (FillEnd::End, 100));
-    assert_eq!(rt; consume(&pipe, &mut reader), Some((100, Some(0))));
+    assert!(rt; (end, taken) == (FillEnd::End, 100));
+    assert!(rt; consume(&pipe, &mut reader) == Some((100, Some(0))));
     Ok(())
 }

@@ -19,15 +19,15 @@ fn what_is_committed_is_lent_where_it_lies(rt: HostRuntime) -> Result<(), Fail> 
     let mark = tail.commit();
     inbox.put(Some(front), mark, None);
     chain.fetch(&mut inbox.arrivals);
-    assert_eq!(rt; chain.count(), 1);
-    assert_eq!(rt; chain.span(0), b"abc".as_slice());
+    assert!(rt; chain.count() == 1);
+    assert!(rt; chain.span(0) == b"abc".as_slice());
     append(&mut tail, b"de");
     let mark = tail.commit();
     inbox.put(None, mark, Some(tail.finish()));
-    assert_eq!(rt; chain.span(0), b"abc".as_slice());
+    assert!(rt; chain.span(0) == b"abc".as_slice());
     chain.fetch(&mut inbox.arrivals);
-    assert_eq!(rt; chain.count(), 1);
-    assert_eq!(rt; chain.span(0), b"abcde".as_slice());
-    assert_eq!(rt; chain.front(0).seen(), b"abcde".as_slice());
+    assert!(rt; chain.count() == 1);
+    assert!(rt; chain.span(0) == b"abcde".as_slice());
+    assert!(rt; chain.front(0).seen() == b"abcde".as_slice());
     Ok(())
 }

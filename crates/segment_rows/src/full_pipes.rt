@@ -49,22 +49,22 @@ fn a_full_pipe_tells_what_fills_it(rt: HostRuntime) -> Result<(), Fail> {
     assert!(rt; fill(&mut state, &mut writing));
     assert!(rt; fill(&mut state, &mut writing));
     assert!(rt; fill(&mut state, &mut writing));
-    assert_eq!(rt; writing.free_len(), 0);
+    assert!(rt; writing.free_len() == 0);
     let unread = Full {
         writer: 1,
         waiting: 4,
         reader: 0,
     };
-    assert_eq!(rt; state.room(1, &mut writing), Err(unread));
+    assert!(rt; state.room(1, &mut writing) == Err(unread));
     state.read_at_least(0, &mut reading);
     let read = Full {
         writer: 1,
         waiting: 0,
         reader: 4,
     };
-    assert_eq!(rt; state.room(1, &mut writing), Err(read));
+    assert!(rt; state.room(1, &mut writing) == Err(read));
     state.end_reader(reading, 0);
-    assert_eq!(rt; state.room(1, &mut writing), Ok(64));
+    assert!(rt; state.room(1, &mut writing) == Ok(64));
     Ok(())
 }
 
@@ -83,12 +83,12 @@ fn what_the_reader_has_is_told_from_what_waits(rt: HostRuntime) -> Result<(), Fa
     assert!(rt; fill(&mut state, &mut writing));
     assert!(rt; fill(&mut state, &mut writing));
     assert!(rt; fill(&mut state, &mut writing));
-    assert_eq!(rt; writing.free_len(), 0);
+    assert!(rt; writing.free_len() == 0);
     let full = Full {
         writer: 1,
         waiting: 2,
         reader: 2,
     };
-    assert_eq!(rt; state.room(1, &mut writing), Err(full));
+    assert!(rt; state.room(1, &mut writing) == Err(full));
     Ok(())
 }

@@ -86,10 +86,7 @@ fn books_tell_what_was_made_is_at_home_out_and_freed(rt: HostRuntime) -> Result<
         Run(8, 1, 4, books(4, 0, 4, 0)),
     ];
     for Run(keep, times, lost, books) in &runs {
-        assert_eq!(rt;
-            books_of_a_run(&rt, rt.alloc(), *keep, *times, *lost)?,
-            *books
-        );
+        assert!(rt; books_of_a_run(&rt, rt.alloc(), *keep, *times, *lost)? == *books);
     }
     Ok(())
 }
@@ -101,16 +98,16 @@ fn a_new_pass_rents_what_is_at_home_and_else_makes_the_last_ids(
     let alloc = rt.alloc();
     let (pool, mut pass) = Pool::make(alloc, 2, 4096)?;
     let first = pool.rent(&rt, alloc, &mut pass)?;
-    assert_eq!(rt; first.id(), 0);
-    assert_eq!(rt; first.size(), 4096);
+    assert!(rt; first.id() == 0);
+    assert!(rt; first.size() == 4096);
     let mut other = pool.split(&mut pass)?;
     let new = pool.rent(&rt, alloc, &mut other)?;
-    assert_eq!(rt; new.id(), 4_611_684_918_915_760_128);
+    assert!(rt; new.id() == 4_611_684_918_915_760_128);
     pool.give(&rt, &mut pass, first);
     let again = pool.rent(&rt, alloc, &mut other)?;
-    assert_eq!(rt; again.id(), 0);
+    assert!(rt; again.id() == 0);
     pool.merge(&mut pass, other);
-    assert_eq!(rt; pool.audit(&rt, pass), books(2, 0, 2, 0));
+    assert!(rt; pool.audit(&rt, pass) == books(2, 0, 2, 0));
     Ok(())
 }
 
@@ -133,7 +130,7 @@ fn splits_in_a_row(pool: &Pool, mut pass: PoolPass) -> u32
 fn a_pass_is_split_until_it_has_one_part(rt: HostRuntime) -> Result<(), Fail> {
     let (pool, mut pass) = Pool::make(rt.alloc(), 1, 1)?;
     let other = pool.split(&mut pass)?;
-    assert_eq!(rt; splits_in_a_row(&pool, other), 40);
+    assert!(rt; splits_in_a_row(&pool, other) == 40);
     Ok(())
 }
 
@@ -217,10 +214,10 @@ fn four_threads_rent_and_give_back_and_the_books_balance(rt: HostRuntime) -> Res
     let (pool, pass) = Pool::make(alloc, 3, 64)?;
     let pass = rent_by_four(&rt, alloc, &pool, pass);
     let books = pool.audit(&rt, pass);
-    assert_eq!(rt; books.out, 0);
+    assert!(rt; books.out == 0);
     assert!(rt; books.home <= 3);
     assert!(rt; books.home >= 1);
     assert!(rt; books.made >= 2);
-    assert_eq!(rt; books.made, books.home.saturating_add(books.freed));
+    assert!(rt; books.made == books.home.saturating_add(books.freed));
     Ok(())
 }

@@ -29,29 +29,29 @@ fn a_front_sees_what_is_committed_and_gives_the_block_with_the_note(
     rt: HostRuntime,
 ) -> Result<(), Fail> {
     let (mut tail, mut front) = Block::make(rt.alloc(), 7, 64)?.part();
-    assert_eq!(rt; tail.room(), 64);
+    assert!(rt; tail.room() == 64);
     append(&mut tail, b"abc");
-    assert_eq!(rt; tail.draft_len(), 3);
-    assert_eq!(rt; tail.room(), 61);
-    assert_eq!(rt; front.look(), 0);
-    assert_eq!(rt; tail.commit().len(), 3);
-    assert_eq!(rt; tail.draft_len(), 0);
-    assert_eq!(rt; front.look(), 3);
-    assert_eq!(rt; front.seen(), b"abc".as_slice());
+    assert!(rt; tail.draft_len() == 3);
+    assert!(rt; tail.room() == 61);
+    assert!(rt; front.look() == 0);
+    assert!(rt; tail.commit().len() == 3);
+    assert!(rt; tail.draft_len() == 0);
+    assert!(rt; front.look() == 3);
+    assert!(rt; front.seen() == b"abc".as_slice());
     append(&mut tail, b"d");
     let mark = tail.commit();
-    assert_eq!(rt; mark.len(), 4);
-    assert_eq!(rt; front.seen(), b"abc".as_slice());
+    assert!(rt; mark.len() == 4);
+    assert!(rt; front.seen() == b"abc".as_slice());
     front.learn(&mark);
-    assert_eq!(rt; front.seen(), b"abcd".as_slice());
+    assert!(rt; front.seen() == b"abcd".as_slice());
     append(&mut tail, b"e");
-    assert_eq!(rt; commit_and_look(&mut tail, &mut front), 5);
+    assert!(rt; commit_and_look(&mut tail, &mut front) == 5);
     match tail.finish() {
         TailEnd::Last(_) => assert!(rt; false),
         TailEnd::Note(note) => {
             let block = front.finish_with(note);
-            assert_eq!(rt; block.id(), 7);
-            assert_eq!(rt; block.size(), 64);
+            assert!(rt; block.id() == 7);
+            assert!(rt; block.size() == 64);
         }
     }
     Ok(())
@@ -65,15 +65,15 @@ fn a_mark_shows_no_more_than_it_stands_for(rt: HostRuntime) -> Result<(), Fail> 
     append(&mut tail, b"two");
     let second = tail.commit();
     front.learn(&first);
-    assert_eq!(rt; front.seen(), b"one".as_slice());
+    assert!(rt; front.seen() == b"one".as_slice());
     front.learn(&second);
-    assert_eq!(rt; front.seen(), b"onetwo".as_slice());
+    assert!(rt; front.seen() == b"onetwo".as_slice());
     front.learn(&first);
-    assert_eq!(rt; front.seen(), b"onetwo".as_slice());
+    assert!(rt; front.seen() == b"onetwo".as_slice());
     append(&mut tail, b"three");
-    assert_eq!(rt; tail.draft_len(), 0);
+    assert!(rt; tail.draft_len() == 0);
     append(&mut tail, b"!!");
-    assert_eq!(rt; tail.room(), 0);
+    assert!(rt; tail.room() == 0);
     Ok(())
 }
 
@@ -100,8 +100,8 @@ fn the_end_that_ends_second_has_the_block_again(rt: HostRuntime) -> Result<(), F
                 }
             }
         };
-        assert_eq!(rt; block.id(), 3);
-        assert_eq!(rt; block.size(), 16);
+        assert!(rt; block.id() == 3);
+        assert!(rt; block.size() == 16);
     }
     let (tail, front) = block.part();
     drop(front);
@@ -117,15 +117,15 @@ fn a_note_of_either_end_gives_the_other_the_block(rt: HostRuntime) -> Result<(),
         return Ok(());
     };
     let block = tail.finish_with(note);
-    assert_eq!(rt; block.id(), 3);
+    assert!(rt; block.id() == 3);
     let (tail, front) = block.part();
     let TailEnd::Note(note) = tail.finish() else {
         assert!(rt; false);
         return Ok(());
     };
     let block = block_of(front, TailEnd::Note(note));
-    assert_eq!(rt; block.id(), 3);
-    assert_eq!(rt; block.size(), 16);
+    assert!(rt; block.id() == 3);
+    assert!(rt; block.size() == 16);
     Ok(())
 }
 
@@ -146,10 +146,10 @@ fn either_end_can_be_dropped_first(rt: HostRuntime) -> Result<(), Fail> {
 #[test]
 fn blocks_are_numbered_from_nought(rt: HostRuntime) -> Result<(), Fail> {
     let blocks = own_blocks(rt.alloc(), 5, 64)?;
-    assert_eq!(rt; blocks.len(), 5);
+    assert!(rt; blocks.len() == 5);
     for (number, block) in blocks.iter().enumerate() {
-        assert_eq!(rt; block.id(), number as u64);
-        assert_eq!(rt; block.size(), 64);
+        assert!(rt; block.id() == number as u64);
+        assert!(rt; block.size() == 64);
     }
     Ok(())
 }
@@ -196,6 +196,6 @@ fn one_thread_looks_while_another_commits(rt: HostRuntime) -> Result<(), Fail> {
         assert!(rt; tail_has_it != front_has_it);
         first = first.saturating_add(count);
     }
-    assert_eq!(rt; first, 1000);
+    assert!(rt; first == 1000);
     Ok(())
 }

@@ -89,10 +89,10 @@ fn what_was_examined_is_lent_with_more(rt: HostRuntime) -> Result<(), AllocError
     ) else {
         return Err(AllocError);
     };
-    assert_eq!(rt; take(&mut reader, 0), lends(2));
-    assert_eq!(rt; take(&mut reader, 0), lends(4));
-    assert_eq!(rt; take(&mut reader, 5), lends(5));
-    assert_eq!(rt; take(&mut reader, 0), ends(0));
+    assert!(rt; take(&mut reader, 0) == lends(2));
+    assert!(rt; take(&mut reader, 0) == lends(4));
+    assert!(rt; take(&mut reader, 5) == lends(5));
+    assert!(rt; take(&mut reader, 0) == ends(0));
     Ok(())
 }
 
@@ -102,11 +102,11 @@ fn a_full_reader_reads_on_once_bytes_are_consumed(rt: HostRuntime) -> Result<(),
     else {
         return Err(AllocError);
     };
-    assert_eq!(rt; take(&mut reader, 0), lends(4));
-    assert_eq!(rt; take(&mut reader, 0), Err(StreamFault::Full { held: 4 }));
+    assert!(rt; take(&mut reader, 0) == lends(4));
+    assert!(rt; take(&mut reader, 0) == Err(StreamFault::Full { held: 4 }));
     reader.cancel();
-    assert_eq!(rt; take(&mut reader, 4), CANCELED);
-    assert_eq!(rt; take(&mut reader, 0), lends(2));
+    assert!(rt; take(&mut reader, 4) == CANCELED);
+    assert!(rt; take(&mut reader, 0) == lends(2));
     Ok(())
 }
 
@@ -122,11 +122,11 @@ fn a_read_for_three_bytes_reads_three_times_and_a_fault_keeps_what_came(
     ) else {
         return Err(AllocError);
     };
-    assert_eq!(rt; take_three(&mut reader, 3), lends(3));
-    assert_eq!(rt; take_three(&mut reader, 3), Err(StreamFault::ReadFault));
-    assert_eq!(rt; take(&mut reader, 0), lends(2));
-    assert_eq!(rt; take_three(&mut reader, 4), lends(4));
-    assert_eq!(rt; take_three(&mut reader, 0), ends(0));
+    assert!(rt; take_three(&mut reader, 3) == lends(3));
+    assert!(rt; take_three(&mut reader, 3) == Err(StreamFault::ReadFault));
+    assert!(rt; take(&mut reader, 0) == lends(2));
+    assert!(rt; take_three(&mut reader, 4) == lends(4));
+    assert!(rt; take_three(&mut reader, 0) == ends(0));
     Ok(())
 }
 
@@ -137,13 +137,13 @@ fn a_reader_lends_in_place_and_gives_its_source_back(rt: HostRuntime) -> Result<
         return Err(AllocError);
     };
     assert!(rt; !reader.lending());
-    assert_eq!(rt; reader.read(), lends(3));
+    assert!(rt; reader.read() == lends(3));
     assert!(rt; reader.lending());
-    assert_eq!(rt; reader.lent(), b"abc".as_slice());
+    assert!(rt; reader.lent() == b"abc".as_slice());
     let mut source = reader.complete();
     let mut rest = [0; 4];
-    assert_eq!(rt; source.read(&mut rest), Ok(2));
-    assert_eq!(rt; rest, [b'd', b'e', 0, 0]);
+    assert!(rt; source.read(&mut rest) == Ok(2));
+    assert!(rt; rest == [b'd', b'e', 0, 0]);
     Ok(())
 }
 
@@ -172,16 +172,16 @@ fn a_flush_goes_on_behind_what_the_sink_took(rt: HostRuntime) -> Result<(), Allo
     };
     assert!(rt; draft(&mut writer, b"abcd"));
     writer.cancel();
-    assert_eq!(rt; writer.flush(), Err(WriteFault { taken: 2 }));
-    assert_eq!(rt; writer.unflushed(), 2);
+    assert!(rt; writer.flush() == Err(WriteFault { taken: 2 }));
+    assert!(rt; writer.unflushed() == 2);
     assert!(rt; draft(&mut writer, b"efghij"));
     assert!(rt; !draft(&mut writer, b"k"));
-    assert_eq!(rt; writer.flush(), flushed(true));
-    assert_eq!(rt; writer.flush(), flushed(false));
+    assert!(rt; writer.flush() == flushed(true));
+    assert!(rt; writer.flush() == flushed(false));
     let Ok(sink) = writer.complete() else {
         return Err(AllocError);
     };
-    assert_eq!(rt; sink.bytes(), b"abcdefghij".as_slice());
+    assert!(rt; sink.bytes() == b"abcdefghij".as_slice());
     Ok(())
 }
 
@@ -194,11 +194,11 @@ fn a_sink_that_fails_to_flush_has_taken_all(rt: HostRuntime) -> Result<(), Alloc
     let Err(WriterKept { end, fault }) = writer.complete() else {
         return Err(AllocError);
     };
-    assert_eq!(rt; fault, WriteFault { taken: 4 });
-    assert_eq!(rt; end.unflushed(), 0);
+    assert!(rt; fault == WriteFault { taken: 4 });
+    assert!(rt; end.unflushed() == 0);
     let Ok(sink) = end.complete() else {
         return Err(AllocError);
     };
-    assert_eq!(rt; sink.bytes(), b"abcd".as_slice());
+    assert!(rt; sink.bytes() == b"abcd".as_slice());
     Ok(())
 }
