@@ -24,13 +24,15 @@ use Rattle.pipe_state.specs.declared.options.Options.{Options}
 use Rattle.pipe_state.specs.declared.full.Full as room
 use Rattle.pipe_turns.specs.declared.faults.TryFault.{TryFault}
 use Rattle.pipe_core.specs.Answers.{Woke}
-use Rattle.pipe_state.specs.Held.{HoldsRuns}
+use Rattle.pipe_state.specs.Held.{AreAll, HoldsRuns}
+use Rattle.pipe_state.specs.Released.{BlockName}
+use Rattle.pipe_turns.specs.Name.{Name}
 use Rattle.pipe_shared.specs.Local.{Local, LocalAnswers, LocalFindsFull}
 use Rattle.relay_engine.specs.Filler.{written, fill_code}
 use Rattle.relay_engine.specs.Filling.{FillingState, HasTaken}
 use Rattle.relay_engine.specs.SoFar.{TakenSoFar}
 use Rattle.relay_engine.specs.WriterEnds.{IsLocalFull, local_drafting}
-use Rattle.relay_engine.specs.LocalEnds.{HoldsLocal, NoOthers, RefusesNone}
+use Rattle.relay_engine.specs.LocalEnds.{HoldsLocal, NoOthers, RefusesNone, made_of}
 use Rattle.relay_engine.specs.Drainer.{DrainState, looked_at, end_code}
 use Rattle.relay_engine.specs.Draining.{DrainingState}
 use Rattle.relay_engine.specs.Pump.{EndsBy, FillsLocal, sure_room_of}
@@ -317,8 +319,20 @@ filled job sb s s' kb k f f' d p p' ending result law rest fills keeps =
         let c = committed job sb s s' kb k f f' d p middle ending (Ended (taking.Gone code)) rest once settled in
         absurd (never_gone d.drained rest.on.text p.options f' once.now code c.asked.goes once.ends)
 
-pub small_total : (p : Local) (h : List Call) → HoldsLocal p h → p.pipe.control.committed ≤ 2 ^ 62
-small_total p h holds = omega (arith, holds.runs.marks.committed, (ordered h holds.runs.marks.legal).total_in)
+-- a writer that has drafted nothing may complete
+pub never_too_much : (p : Local) (h : List Call) → HoldsRuns p.pipe h → p.draft ≡ [] → 2 ^ 62 < p.pipe.control.committed + length (bytes_of p.draft) → ⊥
+never_too_much p h holds settled over =
+    omega (arith, over, holds.marks.committed, (ordered h holds.marks.legal).total_in, ap (λ (runs : List Run). length (bytes_of runs)) settled)
+
+-- What a pipe gives back is what it was made of.
+pub came_back : (back first : List BlockName) (p q : Local) → AreAll back p.pipe.segments.blocks → made_of p ≡ made_of q → q.pipe.segments.blocks ≡ first → AreAll back first
+came_back back first p q all same made = subst (λ (blocks : List BlockName). AreAll back blocks) (ap (λ (m : Name). m.blocks) same ∙ made) all
+
+-- the writer has completed where the taking has ended, also behind the drainer's last step
+pub ended_alike : (job : Job) (sb s : SourceState) (kb k k' : SinkState) (f : FillingState) (d d' : DrainingState) (p p' : Local) (ending : Option FillEnd) (end : DrainEnd) → Pumps job sb s kb k f d p ending → DrainsLocal d p k (Ended end) d' p' k' → p'.pipe.control.ended ≡ option_map fill_code ending
+ended_alike job sb s kb k k' f d d' p p' ending end on once =
+    let a = once.cause on.h on.text on.holds (passed_of d on.h on.text on.fresh on.goes.drained) in
+    a.stands.runs.marks.ended ∙ (behind_reader on.h a.now a.on).ended_is ∙ on.ended
 
 -- how the taking ended, where it didn't since the reader went
 abbrev pub taken_as : Option FillEnd → DrainEnd → FillEnd

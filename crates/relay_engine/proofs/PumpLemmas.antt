@@ -9,7 +9,6 @@ use Rattle.edge_core.proofs.DeviceLemmas.{Takes-trans}
 use Rattle.frame_grammar.specs.declared.job.Job.{Job}
 use Rattle.relay_model.specs.declared.ending.FillEnd.{FillEnd}
 use Rattle.relay_model.specs.declared.ending.FillEnd.TheVariants as taking
-use Rattle.frame_model.specs.declared.framing.Framing.{Framing}
 use Rattle.frame_model.specs.Spelling.{longest_frame}
 use Rattle.frame_model.specs.Translation.{translation_of}
 use Rattle.frame_model.proofs.CutLemmas.{empty_open}
@@ -31,7 +30,7 @@ use Rattle.relay_engine.specs.Filling.{FillingState}
 use Rattle.relay_engine.specs.Later.{Later}
 use Rattle.relay_engine.specs.Drainer.{DrainState, IsDrained}
 use Rattle.relay_engine.specs.ReaderEnds.{Aside, aside_local, lent_local, local_tally}
-use Rattle.relay_engine.specs.LocalEnds.{HoldsLocal, NoOthers, RefusesNone}
+use Rattle.relay_engine.specs.LocalEnds.{HoldsLocal, NoOthers, RefusesNone, made_of}
 use Rattle.relay_engine.specs.Pump.{sure_room_of}
 use Rattle.relay_engine.specs.Draining.{DrainingState, DrainsOnce, GainsBy, GainsIf, MovesBy, OrReaders, lent_for}
 use Rattle.relay_engine.specs.SoFar.{TakenSoFar}
@@ -212,10 +211,16 @@ no_lend k p' holds none = none_mapped length (lend k) (sym holds.runs.marks.lent
 
 -- the options and the draft are as they were
 abbrev aside : Local → Aside
-aside p = record { options = p.options; draft = p.draft }
+aside p = record { made = made_of p; draft = p.draft }
 
 same_aside : (p p' : Local) → aside_local p' ≡ aside_local p → aside p' ≡ aside p
 same_aside p p' is = ap (λ (o : Option Aside). unwrap_or o (aside p)) is
+
+pub made_same : (p p' : Local) → aside_local p' ≡ aside_local p → made_of p' ≡ made_of p
+made_same p p' is = ap (λ (a : Aside). a.made) (same_aside p p' is)
+
+pub draft_same : (p p' : Local) → aside_local p' ≡ aside_local p → p'.draft ≡ p.draft
+draft_same p p' is = ap (λ (a : Aside). a.draft) (same_aside p p' is)
 
 pub gained : (d : DrainingState) (failed : Bool) (a b : SinkState) (gain : List ℕ) → d.owed ≡ None → GainsBy d.owed failed a gain b → GainsIf failed a gain b
 gained d failed a b gain fresh gains = subst (λ (o : Option Owed). GainsBy o failed a gain b) fresh gains
@@ -246,9 +251,9 @@ moved_on job sb s kb k k' f d d' p p' ending frames gone on once =
       ended = so.same.ended_is ∙ on.ended;
       not_gone = on.not_gone;
       draft = ap (λ a. a.draft) kept ∙ on.draft;
-      room = subst (λ (o : Options). longest_frame job.input job.max ≤ sure_room_of o) (sym (ap (λ a. a.options) kept)) on.room;
-      thresholds = subst (λ (o : Options). AreThresholds o.pause o.resume) (sym (ap (λ a. a.options) kept)) on.thresholds;
-      segment = ap (λ a. a.options.segment) kept ∙ on.segment;
+      room = subst (λ (o : Options). longest_frame job.input job.max ≤ sure_room_of o) (sym (ap (λ a. a.made.options) kept)) on.room;
+      thresholds = subst (λ (o : Options). AreThresholds o.pause o.resume) (sym (ap (λ a. a.made.options) kept)) on.thresholds;
+      segment = ap (λ a. a.made.options.segment) kept ∙ on.segment;
       in_time = subst (λ (x : List ℕ). IsInTime job x) (sym so.same.total_is) on.in_time;
     }
 
@@ -311,9 +316,9 @@ idle job sb s kb k f d d' p p' ending n k' gone on once =
         ended = on.ended;
         not_gone = on.not_gone;
         draft = ap (λ a. a.draft) kept ∙ on.draft;
-        room = subst (λ (o : Options). longest_frame job.input job.max ≤ sure_room_of o) (sym (ap (λ a. a.options) kept)) on.room;
-        thresholds = subst (λ (o : Options). AreThresholds o.pause o.resume) (sym (ap (λ a. a.options) kept)) on.thresholds;
-        segment = ap (λ a. a.options.segment) kept ∙ on.segment;
+        room = subst (λ (o : Options). longest_frame job.input job.max ≤ sure_room_of o) (sym (ap (λ a. a.made.options) kept)) on.room;
+        thresholds = subst (λ (o : Options). AreThresholds o.pause o.resume) (sym (ap (λ a. a.made.options) kept)) on.thresholds;
+        segment = ap (λ a. a.made.options.segment) kept ∙ on.segment;
         in_time = on.in_time;
       };
       none_yet = none_mapped fill_code ending (sym on.ended ∙ goes_yet h waiting);

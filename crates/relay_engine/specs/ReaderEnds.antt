@@ -3,18 +3,18 @@ use Rattle.std.specs.Prelude.{ℕ, ◌≡◌, List, length, Option, Some, None, 
 use Rattle.turn_cell.specs.Seat.{CellState, IsIdle}
 use Rattle.pipe_core.specs.History.{Call, Run}
 use Rattle.pipe_core.specs.Legal.{IsLegal}
-use Rattle.pipe_state.specs.declared.options.Options.{Options}
 use Rattle.pipe_turns.specs.declared.faults.TryFault.{TryFault}
 use Rattle.pipe_turns.specs.Name.{Name}
 use Rattle.pipe_turns.specs.Log.{calls_of}
 use Rattle.pipe_turns.specs.Turns.{Refuses}
 use Rattle.pipe_shared.specs.Ends.{Reader}
 use Rattle.pipe_shared.specs.Local.{Local}
+use Rattle.relay_engine.specs.LocalEnds.{made_of}
 use Rattle.relay_engine.specs.Tally.{Tally, no_tally, tally_of}
 
--- What no history tells: the options, and what is drafted.
+-- What no history tells: with which options and of which blocks the pipe was made, and what is drafted.
 pub record Aside : Type 0 where
-  pub options : Options
+  pub made : Name
   pub draft : List Run
 
 -- ---- a pipe for two threads
@@ -53,4 +53,4 @@ abbrev pub lent_local : Local → Option ℕ
 lent_local p = p.pipe.control.lent
 
 abbrev pub aside_local : Local → Option Aside
-aside_local p = Some (record { options = p.options; draft = p.draft })
+aside_local p = Some (record { made = made_of p; draft = p.draft })

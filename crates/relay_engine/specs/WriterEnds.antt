@@ -3,7 +3,6 @@ use Rattle.std.specs.Prelude.{◌≡◌, ◌≢◌, List, length, Some, None, Is
 use Rattle.turn_cell.specs.Seat.{CellState, IsIdle}
 use Rattle.pipe_core.specs.History.{Call, seat_of}
 use Rattle.pipe_core.specs.Legal.{IsLegal}
-use Rattle.pipe_state.specs.declared.options.Options.{Options}
 use Rattle.pipe_state.specs.declared.full.Full.{Full}
 use Rattle.pipe_turns.specs.Name.{Name}
 use Rattle.pipe_turns.specs.declared.faults.TryFault.{TryFault}
@@ -13,6 +12,7 @@ use Rattle.pipe_shared.specs.Ends.{Writer}
 use Rattle.pipe_shared.specs.Granting.{FindsFull}
 use Rattle.pipe_shared.specs.Local.{Local, LocalFindsFull}
 use Rattle.relay_engine.specs.Filling.{Drafting}
+use Rattle.relay_engine.specs.LocalEnds.{made_of}
 use Rattle.relay_engine.specs.Tally.{no_tally, tally_of}
 
 -- A writing end is one of this pipe's.
@@ -30,8 +30,8 @@ IsOthers call = seat_of call ≢ 0
 abbrev pub drafting : Writer → Drafting
 drafting w = record { draft = w.draft; room = length w.free; tally = tally_of w.seat; reading = None }
 
-abbrev pub options_of : CellState Name → Writer → Options
-options_of pipe w = pipe.name.options
+abbrev pub writer_made : CellState Name → Writer → Name
+writer_made pipe w = pipe.name
 
 abbrev pub RefusesWriter : TryFault → Writer → Writer → Type 0
 RefusesWriter fault old new = Refuses fault old.seat new.seat
@@ -52,8 +52,8 @@ local_drafting p = record {
   reading = Some (record { lent = p.pipe.control.lent; gone = p.pipe.control.gone });
 }
 
-abbrev pub local_options : Unit {0} → Local → Options
-local_options pipe p = p.options
+abbrev pub local_made : Unit {0} → Local → Name
+local_made pipe p = made_of p
 
 abbrev pub IsLocalFull : Unit {0} → Full → Local → Local → Type 0
 IsLocalFull pipe full old new = LocalFindsFull 1 full old × (new ≡ old)

@@ -3,8 +3,8 @@
 ghost use Rattle.std.specs.Prelude.{◌≡◌, ◌≢◌, ◌<◌, ◌≤◌, ◌+◌, ◌^◌, ℕ, List, [], ◌∷◌, length, IfOk, IfErr};
 ghost use Rattle.pipe_core.specs.History.{Call, Commit, bytes_of, seat_of};
 ghost use Rattle.pipe_core.specs.Flushes.{reply_to_commit};
-ghost use Rattle.pipe_state.specs.declared.options.Options.{Options};
 ghost use Rattle.pipe_turns.specs.declared.faults.TryFault.{TryFault};
+ghost use Rattle.pipe_turns.specs.Name.{Name};
 ghost use Rattle.relay_engine.specs.Filler.{written};
 ghost use Rattle.relay_engine.specs.Later.{CallsLater, HearsLater};
 ghost use Rattle.relay_engine.specs.Filling.{Drafting, Drafts, IsGranted, RefusesRoomTo};
@@ -44,8 +44,8 @@ pub trait FillPipe {
     /// What is seen of it.
     ghost writer: { Self → Drafting };
 
-    /// With what its pipe was made.
-    ghost options: { Self.Pipe → Self → Options };
+    /// With which options and of which blocks its pipe was made.
+    ghost made: { Self.Pipe → Self → Name };
 
     /// Its call was refused so, and made no entry.
     ghost refuses: { TryFault → Self → Self → Type 0 };
@@ -59,12 +59,12 @@ pub trait FillPipe {
         ensures may { may_call pipe.now self.new }
         ensures at { (h : List Call) → at self.old h → HearsLater at others h self.new }
         ensures some { IfOk result (λ _. 0 < (writer self.new).room) }
-        ensures at_most { IfOk result (λ _. (writer self.new).room ≤ (options pipe.now self.old).segment) }
+        ensures at_most { IfOk result (λ _. (writer self.new).room ≤ (made pipe.now self.old).options.segment) }
         ensures refused { IfErr result (λ fault. RefusesRoomTo (is_full pipe.now) refuses fault self.old self.new) }
         ensures draft { (writer self.new).draft ≡ (writer self.old).draft }
         ensures granted { IfOk result (λ _. IsGranted (writer self.old) (writer self.new)) }
         ensures reading { (writer self.new).reading ≡ (writer self.old).reading }
-        ensures options { options pipe.now self.new ≡ options pipe.now self.old };
+        ensures made { made pipe.now self.new ≡ made pipe.now self.old };
 
     /// Reads once into the free part, at most `left` bytes, and drafts what was read. Where none is left, one more is
     /// read, which is dropped.
@@ -76,7 +76,7 @@ pub trait FillPipe {
         ensures drafts { Drafts left (S.state source.old) (writer self.old).draft result (writer self.new).draft (S.state source.new) }
         ensures tally { (writer self.new).tally ≡ (writer self.old).tally }
         ensures reading { (writer self.new).reading ≡ (writer self.old).reading }
-        ensures options { (pipe : Self.Pipe) → options pipe self.new ≡ options pipe self.old };
+        ensures made { (pipe : Self.Pipe) → made pipe self.new ≡ made pipe self.old };
 
     /// Commits the draft.
     fn commit(&mut self, pipe: &Self::Pipe) -> Result<FlushReply, TryFault>
@@ -85,7 +85,7 @@ pub trait FillPipe {
         ensures may { may_call pipe.now self.new }
         ensures at { IfOk result (λ reply. (h : List Call) → at self.old h →
             CallsLater at others h (Commit (writer self.old).draft)
-            (λ found. reply ≡ reply_to_commit (options pipe.now self.old).pause (options pipe.now self.old).resume found (writer self.old).draft)
+            (λ found. reply ≡ reply_to_commit (made pipe.now self.old).options.pause (made pipe.now self.old).options.resume found (writer self.old).draft)
             self.new) }
         ensures draft { IfOk result (λ _. (writer self.new).draft ≡ []) }
         ensures heard { IfErr result (λ _. (h : List Call) → at self.old h → HearsLater at others h self.new) }
@@ -93,7 +93,7 @@ pub trait FillPipe {
         ensures kept { IfErr result (λ _. (writer self.new).draft ≡ (writer self.old).draft) }
         ensures tally { IfOk result (λ _. Spends 0 (writer self.old).tally (writer self.new).tally) }
         ensures reading { (writer self.new).reading ≡ (writer self.old).reading }
-        ensures options { options pipe.now self.new ≡ options pipe.now self.old };
+        ensures made { made pipe.now self.new ≡ made pipe.now self.old };
 
     /// No other makes a commit.
     ghost others_write_nothing: { (call : Call) → others call → seat_of call ≢ 0 };

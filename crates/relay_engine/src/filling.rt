@@ -96,14 +96,14 @@ impl Filling {
         requires holds { (h : List Call) × (bytes : List ℕ) × HasTaken P.at P.writer self.old end.old h bytes }
         ensures may { P.may_call pipe.now end.new }
         ensures fills { (h : List Call) (bytes : List ℕ) → HasTaken P.at P.writer self.old end.old h bytes →
-            FillsOn P.at P.others P.writer P.refuses (P.options pipe.now end.old) (P.is_full pipe.now) self.old end.old (S.state source.old) result self.new end.new (S.state source.new) h bytes }
+            FillsOn P.at P.others P.writer P.refuses (P.made pipe.now end.old).options (P.is_full pipe.now) self.old end.old (S.state source.old) result self.new end.new (S.state source.new) h bytes }
         ensures owed { IfOk result (λ filled. self.new.owed ≡ owes filled) }
         ensures draft { IfOk result (λ _. (P.writer end.new).draft ≡ []) }
         ensures limit { self.new.limit ≡ self.old.limit }
         ensures within { self.new.taken ≤ self.new.limit }
-        ensures one_read { self.new.taken ≤ self.old.taken + (P.options pipe.now end.old).segment }
+        ensures one_read { self.new.taken ≤ self.old.taken + (P.made pipe.now end.old).options.segment }
         ensures reading { (P.writer end.new).reading ≡ (P.writer end.old).reading }
-        ensures options { P.options pipe.now end.new ≡ P.options pipe.now end.old }
+        ensures made { P.made pipe.now end.new ≡ P.made pipe.now end.old }
     {
         if !self.owed {
             return self.take(pipe, end, source);
@@ -131,14 +131,14 @@ impl Filling {
         requires holds { (h : List Call) × (bytes : List ℕ) × HasTaken P.at P.writer self.old end.old h bytes }
         ensures may { P.may_call pipe.now end.new }
         ensures takes { (h : List Call) (bytes : List ℕ) → HasTaken P.at P.writer self.old end.old h bytes →
-            TakesBy P.at P.others P.writer P.refuses (P.options pipe.now end.old) (P.is_full pipe.now) result self.old end.old (S.state source.old) self.new end.new (S.state source.new) h bytes }
+            TakesBy P.at P.others P.writer P.refuses (P.made pipe.now end.old).options (P.is_full pipe.now) result self.old end.old (S.state source.old) self.new end.new (S.state source.new) h bytes }
         ensures owed { IfOk result (λ filled. self.new.owed ≡ owes filled) }
         ensures draft { IfOk result (λ _. (P.writer end.new).draft ≡ []) }
         ensures limit { self.new.limit ≡ self.old.limit }
         ensures within { self.new.taken ≤ self.new.limit }
-        ensures one_read { self.new.taken ≤ self.old.taken + (P.options pipe.now end.old).segment }
+        ensures one_read { self.new.taken ≤ self.old.taken + (P.made pipe.now end.old).options.segment }
         ensures reading { (P.writer end.new).reading ≡ (P.writer end.old).reading }
-        ensures options { P.options pipe.now end.new ≡ P.options pipe.now end.old }
+        ensures made { P.made pipe.now end.new ≡ P.made pipe.now end.old }
     {
         let left = self.limit - self.taken;
         match end.room(pipe) {
@@ -169,13 +169,13 @@ impl Filling {
         requires holds { (h : List Call) × (bytes : List ℕ) × HasTaken P.at P.writer self.old end.old h bytes }
         ensures may { P.may_call pipe.now end.new }
         ensures settles { (h : List Call) (bytes : List ℕ) → HasTaken P.at P.writer self.old end.old h bytes →
-            Settles P.at P.others P.writer P.refuses (P.options pipe.now end.old) result end.old self.new end.new h bytes }
+            Settles P.at P.others P.writer P.refuses (P.made pipe.now end.old).options result end.old self.new end.new h bytes }
         ensures owed { IfOk result (λ filled. self.new.owed ≡ owes filled) }
         ensures draft { IfOk result (λ _. (P.writer end.new).draft ≡ []) }
         ensures limit { self.new.limit ≡ self.old.limit }
         ensures taken { self.new.taken ≡ self.old.taken }
         ensures reading { (P.writer end.new).reading ≡ (P.writer end.old).reading }
-        ensures options { P.options pipe.now end.new ≡ P.options pipe.now end.old }
+        ensures made { P.made pipe.now end.new ≡ P.made pipe.now end.old }
     {
         let drafted = self.drafted;
         match end.commit(pipe) {

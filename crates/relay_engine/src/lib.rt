@@ -32,5 +32,5 @@ pub use laws::{
 pub use lines::{Told, tell};
 pub use pipe_drainer::{DrainStep, Drainer, drain, drainer_has_written};
 pub use pipe_filler::{FillStep, Filler, filler_has_taken};
-pub use pump::{options_of, pump_local};
+pub use pump::{options_of, pump_local, pump_over};
 pub use relay_model::{FillEnd, Outcome, Report, status_of};

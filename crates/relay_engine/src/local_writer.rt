@@ -12,7 +12,7 @@ impl FillPipe for LocalPipe {
 
     type Full = Full;
 
-    ghost use Rattle.relay_engine.specs.WriterEnds.{IsLocalFull, IsUnended, local_drafting, local_options};
+    ghost use Rattle.relay_engine.specs.WriterEnds.{IsLocalFull, IsUnended, local_drafting, local_made};
     ghost use Rattle.relay_engine.specs.LocalEnds.{HoldsLocal, NoOthers, RefusesNone};
 
     ghost may_call = { IsUnended };
@@ -23,7 +23,7 @@ impl FillPipe for LocalPipe {
 
     ghost writer = { local_drafting };
 
-    ghost options = { local_options };
+    ghost made = { local_made };
 
     ghost refuses = { RefusesNone };
 

@@ -1,18 +1,23 @@
 //! A relay on one thread.
 
-ghost use Rattle.std.specs.Prelude.{◌≡◌, ◌+◌, ◌*◌, ◌^◌, ◌≤◌, ℕ, List, [], ◌∷◌, Some, None, IsNone, IfOk, OnErr};
-ghost use Rattle.frame_grammar.specs.Job.{IsInRange};
+ghost use Rattle.std.specs.Prelude.{◌≡◌, ◌+◌, ◌*◌, ◌≤◌, ℕ, List, [], ◌∷◌, length, Some, None, IsSome, IsNone, IfOk, OnErr, option_map};
+ghost use Rattle.frame_grammar.specs.Job.{IsInRange, segments};
 ghost use Rattle.frame_model.specs.Spelling.{longest_frame};
 ghost use Rattle.relay_model.specs.Run.{IsReported, StopsInTime};
 ghost use Rattle.pipe_core.specs.History.{Call, EndWriter};
 ghost use Rattle.pipe_core.specs.Answers.{Woke};
 ghost use Rattle.pipe_core.specs.Standing.{AreThresholds};
 ghost use Rattle.pipe_core.specs.declared.reply.Wake.{Wake};
+ghost use Rattle.pipe_state.specs.Held.{AreAll};
+ghost use Rattle.pipe_state.specs.Lying.{HaveOwnIds};
 ghost use Rattle.pipe_state.specs.Options.{first_bad};
+ghost use Rattle.pipe_state.specs.Released.{names_of};
+ghost use Rattle.pipe_state.specs.Segments.{AreSized};
 ghost use Rattle.pipe_shared.specs.Local.{LocalAnswers};
+ghost use Rattle.relay_engine.specs.Filler.{fill_code};
 ghost use Rattle.relay_engine.specs.Filling.{HasTaken};
 ghost use Rattle.relay_engine.specs.WriterEnds.{local_drafting};
-ghost use Rattle.relay_engine.specs.LocalEnds.{HoldsLocal};
+ghost use Rattle.relay_engine.specs.LocalEnds.{HoldsLocal, made_of};
 ghost use Rattle.relay_engine.specs.Pump.{FillsLocal, options_for, sure_room_of};
 
 use crate::draining::{Draining, Progress};
@@ -22,10 +27,10 @@ use crate::pipe_filler::code_of;
 use edge_core::{Sink, Source};
 use frame_grammar::{Job, segments_of};
 use pipe_core::never_both;
-use pipe_shared::{LocalPipe, MakeError, Options};
+use pipe_shared::{LocalPipe, MakeError, MakeRefused, Options, local_pipe_has_a_history};
 use pipe_state::numbered_blocks_fit;
-use relay_model::{FillEnd, Report};
-use seg_block::own_blocks;
+use relay_model::{Answer, FillEnd, Report};
+use seg_block::{Block, own_blocks};
 use std::alloc::{AllocError, Global};
 
 /// Relays a source to a sink, and reports how that ended. It takes its memory before the first read, and want of it is the
@@ -45,25 +50,39 @@ pub fn pump_local<S: Source, K: Sink>(
     ensures sink_untouched { OnErr result (K.state sink.new ≡ K.state sink.old) }
     ensures in_time { StopsInTime job.now (S.state source.old) (S.state source.new) }
 {
-    let mut pipe = make_pipe(alloc, job)?;
-    Ok(pump(job, &mut pipe, source, sink))
+    let blocks = own_blocks(alloc, segments_of(job), job.seg)?;
+    numbered_blocks_fit();
+    let (answer, _) = pump_over(alloc, blocks, source, sink, job);
+    answer
 }
 
-/// The pipe of a relay. Want of memory is the one refusal.
-fn make_pipe(alloc: Global, job: &Job) -> Result<LocalPipe, AllocError>
-    requires { IsInRange job.now }
-    ensures options { IfOk result (λ pipe. pipe.options ≡ options_for job.now) }
-    ensures holds { IfOk result (λ pipe. HoldsLocal pipe []) }
-    ensures draft { IfOk result (λ pipe. pipe.draft ≡ []) }
-    ensures room { IfOk result (λ pipe. longest_frame job.now.input job.now.max ≤ sure_room_of pipe.options) }
+/// The same over blocks that are handed in, as many and as large as `options_of` says, and hands all of them back, in any order.
+/// It takes all other memory before the first read.
+pub fn pump_over<S: Source, K: Sink>(
+    alloc: Global,
+    blocks: Vec<Block>,
+    source: &mut S,
+    sink: &mut K,
+    job: &Job,
+) -> (Answer, Vec<Block>)
+    requires range { IsInRange job.now }
+    requires count { length blocks.items ≡ segments job.now }
+    requires sized { AreSized job.now.seg (names_of blocks.items) }
+    requires own { HaveOwnIds (names_of blocks.items) }
+    ensures reported { IfOk result.0 (λ report. IsReported job.now report (S.state source.old) (S.state source.new) (K.state sink.old) (K.state sink.new)) }
+    ensures source_untouched { OnErr result.0 (S.state source.new ≡ S.state source.old) }
+    ensures sink_untouched { OnErr result.0 (K.state sink.new ≡ K.state sink.old) }
+    ensures in_time { StopsInTime job.now (S.state source.old) (S.state source.new) }
+    ensures blocks { AreAll (names_of result.1.items) (names_of blocks.items) }
 {
-    let options = options_of(job);
-    let blocks = own_blocks(alloc, options.segments, options.segment)?;
-    numbered_blocks_fit();
-    match LocalPipe::make(alloc, options, blocks) {
-        Ok(pipe) => Ok(pipe),
-        Err(refused) => match refused.error {
-            MakeError::OutOfMemory => Err(AllocError),
+    match LocalPipe::make(alloc, options_of(job), blocks) {
+        Ok(pipe) => {
+            let mut pipe = pipe;
+            let report = pump(job, &mut pipe, source, sink);
+            (Ok(report), pipe.close().blocks)
+        }
+        Err(MakeRefused { error, blocks }) => match error {
+            MakeError::OutOfMemory => (Err(AllocError), blocks),
             MakeError::BadOptions { .. } => unreachable!(),
         },
     }
@@ -85,7 +104,7 @@ pub fn options_of(job: &Job) -> Options
     }
 }
 
-/// Relays a source to a sink through a pipe that is new.
+/// Relays a source to a sink through a pipe that is new, and completes both its ends.
 fn pump<S: Source, K: Sink>(job: &Job, pipe: &mut LocalPipe, source: &mut S, sink: &mut K) -> Report
     requires range { IsInRange job.now }
     requires stands { HoldsLocal pipe.old [] }
@@ -95,6 +114,9 @@ fn pump<S: Source, K: Sink>(job: &Job, pipe: &mut LocalPipe, source: &mut S, sin
     requires segment { pipe.old.options.segment ≡ job.now.seg }
     ensures reported { IsReported job.now result (S.state source.old) (S.state source.new) (K.state sink.old) (K.state sink.new) }
     ensures in_time { StopsInTime job.now (S.state source.old) (S.state source.new) }
+    ensures writer { IsSome pipe.new.pipe.control.ended }
+    ensures reader { IsSome pipe.new.pipe.control.gone }
+    ensures made { made_of pipe.new ≡ made_of pipe.old }
 {
     never_both();
     let mut filling = Filling::new(job.limit);
@@ -107,6 +129,7 @@ fn pump<S: Source, K: Sink>(job: &Job, pipe: &mut LocalPipe, source: &mut S, sin
             Ok(Progress::Ended(end)) => {
                 // Where the reader is gone before the input's end, no flush need tell the filler so: no more is read.
                 let taking = ending.unwrap_or(FillEnd::Gone { code: end.code() });
+                end_both(pipe, ending, end.code());
                 return Report {
                     outcome: outcome_of(taking, end),
                     frames: draining.frames(),
@@ -129,7 +152,7 @@ fn fill_once<S: Source>(
     requires holds { (h : List Call) × (bytes : List ℕ) × HasTaken HoldsLocal local_drafting filling.old pipe.old h bytes }
     ensures fills { (h : List Call) (bytes : List ℕ) → HasTaken HoldsLocal local_drafting filling.old pipe.old h bytes →
         FillsLocal filling.old pipe.old (S.state source.old) result filling.new pipe.new (S.state source.new) h bytes }
-    ensures options { pipe.new.options ≡ pipe.old.options }
+    ensures made { made_of pipe.new ≡ made_of pipe.old }
     ensures draft { pipe.new.draft ≡ [] }
     ensures limit { filling.new.limit ≡ filling.old.limit }
     ensures within { filling.new.taken ≤ filling.new.limit }
@@ -153,15 +176,30 @@ fn fill_once<S: Source>(
 fn complete(pipe: &mut LocalPipe, code: u32)
     requires open { IsNone pipe.old.pipe.control.ended }
     requires settled { pipe.old.draft ≡ [] }
-    requires small { pipe.old.pipe.control.committed ≤ 2 ^ 62 }
     ensures completes { (wake : Wake) × LocalAnswers pipe.old (EndWriter code ∷ []) (Woke wake) pipe.new }
     ensures hint { pipe.new.hint ≡ 0 }
-    ensures options { pipe.new.options ≡ pipe.old.options }
+    ensures made { made_of pipe.new ≡ made_of pipe.old }
     ensures draft { pipe.new.draft ≡ [] }
     ensures gone { pipe.new.pipe.control.gone ≡ pipe.old.pipe.control.gone }
     ensures lent { pipe.new.pipe.control.lent ≡ pipe.old.pipe.control.lent }
 {
+    local_pipe_has_a_history(pipe);
     let Ok(_) = pipe.end_writer(code) else {
         unreachable!()
     };
+}
+
+/// Completes the reader, and the writer where its taking hasn't ended.
+fn end_both(pipe: &mut LocalPipe, ending: Option<FillEnd>, code: u32)
+    requires attended { IsNone pipe.old.pipe.control.gone }
+    requires settled { pipe.old.draft ≡ [] }
+    requires ended { pipe.old.pipe.control.ended ≡ option_map fill_code ending }
+    ensures writer { IsSome pipe.new.pipe.control.ended }
+    ensures reader { IsSome pipe.new.pipe.control.gone }
+    ensures made { made_of pipe.new ≡ made_of pipe.old }
+{
+    let _ = pipe.end_reader(code);
+    if ending.is_none() {
+        complete(pipe, code);
+    }
 }

@@ -15,7 +15,7 @@ impl FillPipe for WriterEnd {
 
     type Full = Full;
 
-    ghost use Rattle.relay_engine.specs.WriterEnds.{FindsNoRoom, HasWritten, IsOthers, IsWriterOf, RefusesWriter, drafting, options_of};
+    ghost use Rattle.relay_engine.specs.WriterEnds.{FindsNoRoom, HasWritten, IsOthers, IsWriterOf, RefusesWriter, drafting, writer_made};
 
     ghost may_call = { IsWriterOf };
 
@@ -25,7 +25,7 @@ impl FillPipe for WriterEnd {
 
     ghost writer = { drafting };
 
-    ghost options = { options_of };
+    ghost made = { writer_made };
 
     ghost refuses = { RefusesWriter };
 

@@ -1,14 +1,7 @@
 use Rattle.relay_engine.specs.LocalEnds.{HoldsLocal, NoOthers, RefusesNone}
 use Rattle.relay_engine.specs.WriterEnds.{local_drafting}
 use Rattle.relay_engine.proofs.FillingLemmas.{took}
-use Rattle.relay_engine.proofs.PumpFillLemmas.{small_total}
 use Rattle.relay_engine.proofs.pump.fill_once.Goals as goal
-
-pub complete-requires-clause-small : goal.complete-requires-clause-small
-complete-requires-clause-small g c =
-    let own = c.requires.holds in
-    let once = took HoldsLocal NoOthers local_drafting RefusesNone _ _ _ _ _ _ _ _ _ _ _ (c.in-Ok-Ended.ensures.fills own.0 own.1 own.2) in
-    small_total c.step.new.end once.now once.holds.stands
 
 pub unreachable-requires : goal.unreachable-requires
 unreachable-requires g c = let own = c.requires.holds in (took HoldsLocal NoOthers local_drafting RefusesNone _ _ _ _ _ _ _ _ _ _ _ (c.in-Err.ensures.fills own.0 own.1 own.2)).met.1
