@@ -1,7 +1,7 @@
 //! What is done to a task.
 
 ghost use Rattle.std.specs.Prelude.{[]};
-ghost use Rattle.seg_pool.specs.Words.{Adds, IsOf};
+ghost use Rattle.seg_pool.specs.Words.{Adds, IsOf, PoolState};
 
 use seg_pool::{Pool, PoolPass};
 use std::alloc::Global;
@@ -14,6 +14,8 @@ pub trait Work<T> {
 
     ghost gives: { Self → T → Self.Done → Type 0 };
 
+    ghost may_use: { Self → PoolState → Type 0 };
+
     fn run<R: Wait>(
         &self,
         rt: &R,
@@ -22,6 +24,7 @@ pub trait Work<T> {
         pass: &mut PoolPass,
         task: T,
     ) -> Self::Done
+        requires may_use { may_use self.now pool.now }
         requires pool { IsOf pool.now pass.old }
         ensures pool { IsOf pool.now pass.new }
         ensures out { Adds pass.old.books [] pass.new.books }

@@ -26,6 +26,8 @@ impl Work<u64> for Held {
 
     ghost gives = { λ held task done. done.0 ≡ task };
 
+    ghost may_use = { λ held pool. pool.segment ≡ 64 };
+
     fn run<R: Wait>(
         &self,
         _rt: &R,
@@ -34,6 +36,7 @@ impl Work<u64> for Held {
         pass: &mut PoolPass,
         task: u64,
     ) -> (u64, bool)
+        requires may_use { pool.now.segment ≡ 64 }
         requires pool { IsOf pool.now pass.old }
         ensures pool { IsOf pool.now pass.new }
         ensures out { Adds pass.old.books [] pass.new.books }

@@ -51,6 +51,7 @@ pub fn run_all<R: Threads + Wait + Sync, T: Send + Drop, W: Work<T> + Sync>(
     pass: &mut PoolPass,
 ) -> Result<Vec<W::Done>, AllocError>
     requires workers { (1 ≤ workers) × (workers ≤ 16) }
+    requires may_use { W.may_use work.now pool.now }
     requires pool { IsOf pool.now pass.old }
     ensures pool { IsOf pool.now pass.new }
     ensures done { IfOk result (λ done. AllZip (W.gives work.now) tasks.items done.items) }
@@ -105,6 +106,7 @@ fn share_out<R: Threads + Wait + Sync, T: Send + Drop, W: Work<T> + Sync>(
     worker: Worker<T, W::Done>,
     workers: usize,
 ) -> Worker<T, W::Done>
+    requires may_use { W.may_use work.now pool.now }
     requires worker { IsWorkerOf (W.gives work.now) queue.now pool.now worker }
     requires parts { workers < (view worker.pass).parts }
     requires room { HasRoom worker }
@@ -123,11 +125,11 @@ fn share_out<R: Threads + Wait + Sync, T: Send + Drop, W: Work<T> + Sync>(
     let (theirs, mine) = join(
         rt,
         move || -> Worker<T, W::Done>
-            requires { IsWorkerOf (W.gives work.now) queue.now pool.now other }
+            requires { W.may_use work.now pool.now × IsWorkerOf (W.gives work.now) queue.now pool.now other }
             ensures { IsWorkerOf (W.gives work.entry.now) queue.entry.now pool.entry.now result × SameWorker other result }
         { do_tasks(rt, alloc, queue, pool, work, other) },
         move || -> Worker<T, W::Done>
-            requires { IsSync R.row × IsWorkerOf (W.gives work.now) queue.now pool.now worker × (more < (view worker.pass).parts) × HasRoom worker }
+            requires { IsSync R.row × W.may_use work.now pool.now × IsWorkerOf (W.gives work.now) queue.now pool.now worker × (more < (view worker.pass).parts) × HasRoom worker }
             ensures { IsWorkerOf (W.gives work.entry.now) queue.entry.now pool.entry.now result × SameWorker worker result }
         { share_out(rt, alloc, queue, pool, work, worker, more) },
     );
@@ -143,7 +145,8 @@ fn do_tasks<R: Wait, T: Drop, W: Work<T>>(
     work: &W,
     worker: Worker<T, W::Done>,
 ) -> Worker<T, W::Done>
-    requires { IsWorkerOf (W.gives work.now) queue.now pool.now worker }
+    requires may_use { W.may_use work.now pool.now }
+    requires worker { IsWorkerOf (W.gives work.now) queue.now pool.now worker }
     ensures worker { IsWorkerOf (W.gives work.now) queue.now pool.now result }
     ensures same { SameWorker worker result }
 {
@@ -171,6 +174,7 @@ fn do_the_rest<R: Wait, T: Drop, W: Work<T>>(
     work: &W,
     worker: Worker<T, W::Done>,
 ) -> Worker<T, W::Done>
+    requires may_use { W.may_use work.now pool.now }
     requires worker { IsWorkerOf (W.gives work.now) queue.now pool.now worker }
     requires room { HasRoom worker }
     requires all { (view worker.pass).parts ≡ whole }
