@@ -1,3 +1,2 @@
-mod BatchLemmas
 mod LineLemmas
 mod RentedLemmas

@@ -70,3 +70,11 @@ module _ (size : ℕ) (back : List Block) (blocks : List BlockName) (all : AreAl
 
   pub sizes_came_back : AreSized size blocks → AreOfSize size back
   sizes_came_back sized = sized_blocks size back (same_sizes size (names_of back) blocks all sized)
+
+module _ (back first : List Block) (all : AreAll (names_of back) (names_of first)) where
+  -- the blocks that came back are those that were handed in
+  pub same_blocks : (id : ℕ) → times id (ids_of back) ≡ times id (ids_of first)
+  same_blocks id = ids_came_back 0 back (names_of first) all id ∙ ap (λ (ids : List ℕ). times id ids) (ids_by_name first)
+
+  pub same_size : (size : ℕ) → AreOfSize size first → AreOfSize size back
+  same_size size sized = sizes_came_back size back (names_of first) all (sized_by_name size first sized)

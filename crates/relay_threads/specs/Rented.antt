@@ -1,5 +1,5 @@
 -- The blocks of a pipe that are out with a pass of a pool.
-use Rattle.std.specs.Prelude.{ℕ, ◌≡◌, List, map}
+use Rattle.std.specs.Prelude.{ℕ, List, map}
 use Rattle.pipe_state.specs.Released.{BlockName}
 
 -- the ids of the blocks that a pipe was made of

@@ -1,5 +1,5 @@
 -- What is rented fits a pipe, and what a pipe refuses is what was rented.
-use Rattle.std.proofs.Common.{◌≡◌, ℕ, List, ap, sym, subst, arith, ◌∙◌}
+use Rattle.std.proofs.Common.{ℕ, List, ap, sym, subst, arith, ◌∙◌}
 use Rattle.seg_block.specs.Numbered.{times}
 use Rattle.seg_pool.specs.Words.{Adds, Removes}
 use Rattle.pipe_state.specs.Released.{BlockName, names_of}

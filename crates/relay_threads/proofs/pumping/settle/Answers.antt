@@ -1,5 +1,5 @@
 -- What comes back is what the pipe was made of.
-use Rattle.std.proofs.Common.{◌≤◌, sym, arith}
+use Rattle.std.proofs.Common.{arith}
 use Rattle.relay_threads.proofs.RentedLemmas.{ids_came_back, sizes_came_back}
 use Rattle.relay_threads.proofs.pumping.settle.Goals as goal
 
