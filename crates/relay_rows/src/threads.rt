@@ -9,6 +9,7 @@ use edge_core::NoDoors;
 use frame_grammar::{Framing, Job};
 use relay_model::{Status, status_of_answer};
 use relay_threads::{Task, batch};
+use seg_pool::Pool;
 use std::test::Fail;
 
 /// The source's second read and the sink's first write wait for each other. A relay on one thread, or one that fills first, ends
@@ -27,7 +28,8 @@ fn pump_runs_on_two_threads(rt: HostRuntime) -> Result<(), Fail> {
 }
 
 fn job() -> Job
-    ensures { IsInRange result }
+    ensures range { IsInRange result }
+    ensures segment { result.seg ≡ 4096 }
 {
     Job {
         input: Framing::Line,
@@ -54,7 +56,9 @@ fn two_workers_go_on_beside_each_other(rt: HostRuntime) -> Result<(), Fail> {
         inlet: HeldSource::new(b"b\n".to_vec(alloc)?, &free),
         outlet: HeldSink::new(Vec::new(alloc), &held),
     })?;
-    let finished = batch(&rt, alloc, tasks, 2, &job())?;
+    let (pool, mut pass) = Pool::make(alloc, 72, 4_096)?;
+    let finished = batch(&rt, alloc, tasks, 2, &job(), &pool, &mut pass)?;
+    assert!(rt; pool.audit(&rt, pass).out == 0);
     assert!(rt; finished.len() == 2);
     for (done, text) in finished.iter().zip([b"a\n", b"b\n"]) {
         assert!(rt; status_of_answer(&done.report) == Status::Clean);
