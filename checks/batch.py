@@ -99,6 +99,18 @@ def large_files(count):
             check(f"their outputs beside those of copy, {workers} workers", same, [True] * count)
 
 
+def uneven_files(count, rounds):
+    """Files of uneven sizes, the large ones neighbours, by 16 workers, some times over."""
+    inputs = {f"{number:03}": b"a line of uneven files\n" * (20_000 if number < 8 else number % 50) for number in range(count)}
+    outputs, *told = model.batch("line", "len4", USUAL_MAX, inputs)
+    with tempfile.TemporaryDirectory() as folder:
+        write_files(folder, inputs)
+        for turn in range(rounds):
+            leave_outputs(folder, inputs)
+            check(f"{count} uneven files, time {turn}", batch(folder, "16", ["line", "len4"], inputs), tuple(told))
+            check(f"their outputs, time {turn}", outputs_of(folder, inputs), outputs)
+
+
 def names_of_all_kinds():
     """As many names as may be, names with slashes, blanks and letters beyond ASCII, one that looks like a key, and a link."""
     inputs = {f"{number:03}": FRAME * number for number in range(256)}
@@ -231,6 +243,7 @@ def system_calls(segments, segment=4096, piece=32768):
 
 small_files(200)
 large_files(8)
+uneven_files(256, 10)
 names_of_all_kinds()
 files_that_cannot_be_opened()
 files_that_fail()
