@@ -18,6 +18,11 @@ prints them.
 wants the first of them alone, and measures `relay pump` beside `relay copy` on lines of 80 bytes: the least time of each in
 seconds, and their ratio.
 
+    python3 bench/copy.py vlen [MEGABYTES]
+
+wants the first alone too, and measures each row that has `vlen` beside the same one with `len4`: the time of the first over that
+of the second, from a file to the null device and through pipes.
+
     python3 bench/copy.py drill [FRAMES]
 
 measures `relay drill`, which makes that many frames and relays them into memory, beside `relay copy` of the same bytes from a
@@ -70,10 +75,7 @@ def build(folder):
 def write_input(path, framing, payload, size):
     """A file of so many bytes at least, of frames whose payloads have that length."""
     body = (b"abcdefghijklmnopqrstuvwxyz0123456789" * (payload // 36 + 1))[:payload]
-    if framing == "line":
-        frame = body + b"\n"
-    else:
-        frame = payload.to_bytes(4 if framing == "len4" else 2, "big") + body
+    frame = model.spell(framing, body)
     chunk = frame * max(1, 1_000_000 // len(frame))
     with open(path, "wb") as file:
         for _ in range(-(-size // len(chunk))):
@@ -126,6 +128,24 @@ def pump_beside_copy(size):
             for way, run in (("file", file_to_null), ("pipes", through_pipes)):
                 copy, pump = least_times(run, programs, path, ROUNDS_ON_TWO)
                 print(f"{' '.join(keys):26}{way:8}{copy:8.3f}{pump:8.3f}{pump / copy:13.2f}", flush=True)
+
+
+def vlen_beside_len4(size):
+    """Inputs of as many frames, so that the longer heads of `len4` are no advantage to it."""
+    pairs = [("vlen", "vlen"), *[pair for other in FRAMINGS for pair in (("vlen", other), (other, "vlen"))]]
+    print(f"{'translation':16}{'payload':>8}{'file':>8}{'pipes':>8}")
+    with tempfile.TemporaryDirectory() as folder:
+        paths = {framing: os.path.join(folder, framing) for framing in ["vlen", *FRAMINGS]}
+        for payload in (12, 80, 1024, 60000):
+            for framing, path in paths.items():
+                write_input(path, framing, payload, size * len(model.spell(framing, b"a" * payload)) // payload)
+            for source, sink in pairs:
+                times = []
+                for words in ([source, sink], [framing.replace("vlen", "len4") for framing in (source, sink)]):
+                    programs = [[RELAY, "copy", *words, *LARGE]]
+                    times.append([least_times(run, programs, paths[words[0]], ROUNDS)[0] for run in (file_to_null, through_pipes)])
+                file, pipes = [vlen / len4 for vlen, len4 in zip(*times)]
+                print(f"{source + ' to ' + sink:16}{payload:8}{file:8.2f}{pipes:8.2f}", flush=True)
 
 
 def drill_beside_copy(count):
@@ -237,6 +257,9 @@ def main():
         return
     if sys.argv[1:2] == ["pump"]:
         pump_beside_copy(int(sys.argv[2] if len(sys.argv) > 2 else "200") * 1_000_000)
+        return
+    if sys.argv[1:2] == ["vlen"]:
+        vlen_beside_len4(int(sys.argv[2] if len(sys.argv) > 2 else "50") * 1_000_000)
         return
     if sys.argv[1:2] == ["tables"]:
         write_tables(int(sys.argv[2] if len(sys.argv) > 2 else "100") * 1_000_000)

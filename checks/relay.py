@@ -14,7 +14,7 @@ import tempfile
 import model
 from running import SECONDS, check, end, feed, finish, run, start
 
-FRAMINGS = ["len4", "len2", "line"]
+FRAMINGS = ["len4", "len2", "vlen", "line"]
 USUAL_MAX = 65536
 COMMANDS = ["copy", "pump"]
 COPY = ["copy", "len4", "line"]
@@ -52,6 +52,13 @@ def named_cases():
         ("a payload broken off", "len4 line", b"\0\0\0\5h", b"", 3, b"truncated at 0\n"),
         ("a head broken off", "len4 line", FRAME + b"\0\0", b"hi\n", 3, b"truncated at 6\n"),
         ("a first head broken off", "len4 line", b"\0\0", b"", 3, b"truncated at 0\n"),
+        ("a length in one group", "vlen line", b"\2hi", b"hi\n", 0, b""),
+        ("a head that is longer than needed", "vlen line", b"\1a\x80\0", b"a\n", 2, b"bad frame at 2: head 2\n"),
+        ("four groups that all go on", "vlen line", b"\x80" * 4, b"", 2, b"bad frame at 0: head 4\n"),
+        ("a head of groups broken off", "vlen line", b"\x80", b"", 3, b"truncated at 0\n"),
+        ("a length in two groups", "line vlen", b"a" * 200 + b"\n", b"\xc8\1" + b"a" * 200, 0, b""),
+        ("a payload that is too big behind two groups", "vlen len4 max=299", b"\xac\2" + b"a" * 300, b"", 2, b"bad frame at 0: length 300\n"),
+        ("the greatest limit", "line line max=268435455", b"a", b"a\n", 0, b""),
     ]
     for command, (name, words, data, output, status, line) in itertools.product(COMMANDS, cases):
         words = [command, *words.split()]
@@ -79,7 +86,7 @@ def random_cases(count):
 def wrong_words():
     cases = [
         ([], 0), (["Copy", "len4", "line"], 0), (["drill"], 1), (["drill", "4294967296", "1", "line", "len4"], 1), (["serve"], 0), (["batch"], 1), (["batch", "0", "line", "len4", "a"], 1), (["batch", "2", "line", "len4"], 4), (["batch", "2", "line", "len4", "a", "a"], 5), (["batch", "2", "line", "len4", "a.out"], 4), (["--help", "x"], 0), (["--verbose"], 0), (["copy"], 1), (["copy", "len4"], 2), (["pump"], 1), (["pump", "len4"], 2),
-        (["copy", "len4", "lines"], 2), ([*COPY, "x"], 3), ([*COPY, "max=01"], 3), ([*COPY, "max=16777217"], 3),
+        (["copy", "len4", "lines"], 2), ([*COPY, "x"], 3), ([*COPY, "max=01"], 3), ([*COPY, "max=268435456"], 3),
         (["pump", "len4", "foo"], 2), (["pump", "line", "len4", "max=1", "max=1"], 4), (["drill", "len4", "line"], 1),
         (["drill", "1", "1000001", "line", "len4"], 2), (["drill", "1", "1", "line", "len4", "x"], 5),
         ([*COPY, "max=1", "max=1"], 4), ([*COPY, "seg=63"], 3), ([*COPY, "resume=70000"], 3), ([*COPY, "resume=9", "pause=8"], 3),
@@ -104,6 +111,7 @@ def drills():
         ("95 2 line len4", b"frames=2 in=109 out=115\n", 0, b""),
         *[("7 100000 line len4", b"frames=100000 in=4849904 out=5149904\n", 0, b"")] * 3,
         ("95 2 len4 line seg=64 pause=1", b"frames=2 in=115 out=109\n", 0, b""),
+        ("95 2 vlen line", b"frames=2 in=109 out=109\n", 0, b""), ("95 2 len2 vlen", b"frames=2 in=111 out=109\n", 0, b""),
         ("95 2 line len4 max=94", b"", 2, b"bad frame at 0: length 95\n"),
         ("2 2 len4 line max=2", b"", 2, b"bad frame at 6: length 15\n"),
     ]

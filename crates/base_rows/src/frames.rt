@@ -38,6 +38,10 @@ fn too_big(len: u64) -> Cut {
     Cut::Bad(BadKind::TooBig { len })
 }
 
+fn bad_head(bytes: u64) -> Cut {
+    Cut::Bad(BadKind::BadHead { bytes })
+}
+
 /// Cuts the first frame off bytes that lie in spans which end at any two places.
 fn check_cut(rt: &impl Abort, framing: Framing, max: u64, bytes: &[u8], at_end: bool, want: Cut) {
     assert!(rt; bytes.len() <= 11);
@@ -56,7 +60,7 @@ fn check_cut(rt: &impl Abort, framing: Framing, max: u64, bytes: &[u8], at_end: 
 
 #[test]
 fn next_frame_cuts_these_inputs(rt: HostRuntime) {
-    let cases: [(Framing, u64, &[u8], bool, Cut); 32] = [
+    let cases: [(Framing, u64, &[u8], bool, Cut); 44] = [
         (
             Framing::Len4,
             65536,
@@ -97,6 +101,24 @@ fn next_frame_cuts_these_inputs(rt: HostRuntime) {
         (Framing::Len4, 0, &[0, 0, 0, 0], false, frame(4, 4, 4)),
         (Framing::Len2, 255, &[1, 0], false, too_big(256)),
         (Framing::Len2, u64::MAX, &[255, 255], true, Cut::Rest),
+        (Framing::VLen, 2, &[], true, Cut::End),
+        (Framing::VLen, 2, &[], false, Cut::More),
+        (Framing::VLen, 2, &[2, 97, 98, 99], false, frame(1, 3, 3)),
+        (Framing::VLen, 2, &[2, 97], true, Cut::Rest),
+        (Framing::VLen, 1, &[2, 97, 98], true, too_big(2)),
+        (Framing::VLen, 9, &[128, 128, 128], true, Cut::Rest),
+        (Framing::VLen, 9, &[128, 128, 128], false, Cut::More),
+        (Framing::VLen, 9, &[128, 0], false, bad_head(2)),
+        (Framing::VLen, 9, &[128, 128, 0], false, bad_head(3)),
+        (Framing::VLen, 9, &[255, 255, 255, 0], true, bad_head(4)),
+        (Framing::VLen, 9, &[128, 128, 128, 128], true, bad_head(4)),
+        (
+            Framing::VLen,
+            9,
+            &[255, 255, 255, 127],
+            true,
+            too_big(268_435_455),
+        ),
         // a line
         (Framing::Line, 2, &[], false, Cut::More),
         (Framing::Line, 2, &[97, 98, 99, 10], true, too_big(3)),
@@ -117,6 +139,7 @@ fn can_spell_refuses_a_line_feed_and_a_length_too_many(rt: HostRuntime) {
     assert!(rt; can_spell(Framing::Len4, &long) == Ok(()));
     assert!(rt; can_spell(Framing::Len2, &long.without_front(1)) == Ok(()));
     assert!(rt; can_spell(Framing::Len2, &long) == Err(BadKind::Unspellable { at: 65535 }));
+    assert!(rt; can_spell(Framing::VLen, &long) == Ok(()));
     assert!(rt; can_spell(Framing::Line, &long) == Ok(()));
     let pieces = Pieces {
         front: b"",
@@ -130,19 +153,28 @@ fn can_spell_refuses_a_line_feed_and_a_length_too_many(rt: HostRuntime) {
 
 #[test]
 fn heads_and_tails(rt: HostRuntime) {
-    let heads: [(Framing, u64, &[u8]); 5] = [
+    let heads: [(Framing, u64, &[u8]); 13] = [
         (Framing::Len4, 65535, &[0, 0, 255, 255]),
         (Framing::Len4, 65536, &[0, 1, 0, 0]),
         (Framing::Len2, 2, &[0, 2]),
         (Framing::Len2, 65535, &[255, 255]),
+        (Framing::VLen, 0, &[0]),
+        (Framing::VLen, 127, &[127]),
+        (Framing::VLen, 128, &[128, 1]),
+        (Framing::VLen, 16_383, &[255, 127]),
+        (Framing::VLen, 16_384, &[128, 128, 1]),
+        (Framing::VLen, 2_097_151, &[255, 255, 127]),
+        (Framing::VLen, 2_097_152, &[128, 128, 128, 1]),
+        (Framing::VLen, 268_435_455, &[255, 255, 255, 127]),
         (Framing::Line, 65536, &[]),
     ];
     for (framing, len, want) in heads {
         assert!(rt; spell_head(framing, len).bytes() == want);
     }
-    let tails: [(Framing, &[u8]); 3] = [
+    let tails: [(Framing, &[u8]); 4] = [
         (Framing::Len4, &[]),
         (Framing::Len2, &[]),
+        (Framing::VLen, &[]),
         (Framing::Line, &[10]),
     ];
     for (framing, want) in tails {
@@ -184,10 +216,10 @@ fn segments_hold_a_payload_and_a_pause(rt: HostRuntime) {
     );
     assert!(rt;
         segments_of(&Job {
-            max: 16_777_216,
+            max: 268_435_455,
             seg: 64,
             pause: 16_777_216,
             ..usual
-        }) == 524_292
+        }) == 4_210_692
     );
 }

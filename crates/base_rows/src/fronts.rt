@@ -6,10 +6,11 @@ use std::process::Abort;
 
 #[test]
 fn whole_frames_are_counted(rt: HostRuntime) {
-    let cases: [(Framing, u64, &[u8], usize, u64); 7] = [
+    let cases: [(Framing, u64, &[u8], usize, u64); 8] = [
         (Framing::Len4, 9, b"\0\0\0\x02ab\0\0\0\0\0\0\0\x02a", 10, 2),
         (Framing::Len4, 1, b"\0\0\0\x02ab", 0, 0),
         (Framing::Len2, 9, b"\0\x02ab\0\x01c\0", 7, 2),
+        (Framing::VLen, 9, b"\x02ab\x01c\x80\0d", 5, 2),
         (Framing::Line, 9, b"ab\n\ncd", 4, 2),
         (Framing::Line, 2, b"ab\n\ncd\nabc\na\n", 7, 3),
         (Framing::Line, 0, b"\n\na\n", 2, 2),
@@ -58,6 +59,9 @@ fn frames_are_spelt_anew(rt: HostRuntime) {
         b".\0\0\0\x02ab\0\0\0\0",
     );
     check_spelt(&rt, Framing::Len2, Framing::Line, len2, 6, b".ab\n\n");
+    check_spelt(&rt, Framing::Len2, Framing::VLen, len2, 6, b".\x02ab\0");
+    let vlen = b"\x02ab\0\x80behind...............";
+    check_spelt(&rt, Framing::VLen, Framing::Len2, vlen, 4, b".\0\x02ab\0\0");
     let line = b"ab\n\nbehind..........";
     check_spelt(
         &rt,

@@ -45,10 +45,10 @@ fn words_of_a_command(rt: HostRuntime) -> Result<(), Fail> {
             },
         ),
         (
-            "copy|len2|len2|max=16777216",
+            "copy|len2|vlen|max=268435455",
             Job {
-                max: 16_777_216,
-                ..job(Framing::Len2, Framing::Len2)
+                max: 268_435_455,
+                ..job(Framing::Len2, Framing::VLen)
             },
         ),
         (
@@ -157,7 +157,7 @@ copy|len4|line|
 copy|len4|line|max=01
 copy|len4|line|max=
 copy|len4|line|max=+1
-copy|len4|line|max=16777217
+copy|len4|line|max=268435456
 copy|len4|line|max=18446744073709551617
 copy|line|len4|seg=63
 copy|line|len4|seg=65537

@@ -23,6 +23,7 @@ pub fn whole_front(framing: Framing, max: u64, bytes: &[u8]) -> Front
     match framing {
         Framing::Len4 => count(Framing::Len4, max, bytes),
         Framing::Len2 => count(Framing::Len2, max, bytes),
+        Framing::VLen => count(Framing::VLen, max, bytes),
         Framing::Line => whole_lines(max, bytes),
     }
 }

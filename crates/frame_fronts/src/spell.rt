@@ -7,7 +7,7 @@ ghost use Rattle.frame_fronts.specs.Fronts.{IsLeft, IsNext, IsSpelt};
 use crate::clean::is_clean;
 use crate::copy::{copy_at, copy_payload};
 use crate::place::{Place, behind, whole_frame};
-use frame_model::Framing;
+use frame_model::{Framing, groups_of};
 
 /// How many bytes at the front were spelt anew, in how many frames, and where their text ends in the room.
 #[derive(Clone, Copy, Debug)]
@@ -40,6 +40,12 @@ pub fn spell_front(
         (Framing::Len2, Framing::Line) => spell(Framing::Len2, Framing::Line, max, bytes, room, at),
         (Framing::Line, Framing::Len4) => spell(Framing::Line, Framing::Len4, max, bytes, room, at),
         (Framing::Line, Framing::Len2) => spell(Framing::Line, Framing::Len2, max, bytes, room, at),
+        (Framing::VLen, Framing::Len4) => spell(Framing::VLen, Framing::Len4, max, bytes, room, at),
+        (Framing::VLen, Framing::Len2) => spell(Framing::VLen, Framing::Len2, max, bytes, room, at),
+        (Framing::VLen, Framing::Line) => spell(Framing::VLen, Framing::Line, max, bytes, room, at),
+        (Framing::Len4, Framing::VLen) => spell(Framing::Len4, Framing::VLen, max, bytes, room, at),
+        (Framing::Len2, Framing::VLen) => spell(Framing::Len2, Framing::VLen, max, bytes, room, at),
+        (Framing::Line, Framing::VLen) => spell(Framing::Line, Framing::VLen, max, bytes, room, at),
         _ => spell(input, output, max, bytes, room, at),
     }
 }
@@ -101,6 +107,7 @@ fn has_frame(output: Framing, bytes: &[u8], from: usize, len: usize) -> bool
     match output {
         Framing::Len4 => len <= 0xffff_ffff,
         Framing::Len2 => len <= 0xffff,
+        Framing::VLen => len <= 0xfff_ffff,
         Framing::Line => is_clean(bytes, from, len),
     }
 }
@@ -126,6 +133,12 @@ fn put(output: Framing, room: &mut [u8], at: usize, bytes: &[u8], from: usize, l
             copy_at(room, at, &(len as u16).to_be_bytes());
             copy_payload(room, at + 2, bytes, from, len);
             at + 2 + len
+        }
+        Framing::VLen => {
+            let head = groups_of(len as u32);
+            copy_at(room, at, &head.bytes[..head.count]);
+            copy_payload(room, at + head.count, bytes, from, len);
+            at + head.count + len
         }
         Framing::Line => {
             copy_payload(room, at, bytes, from, len);

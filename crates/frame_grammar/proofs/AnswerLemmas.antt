@@ -1,18 +1,21 @@
 -- What stands first in the cut is what stands at the front.
-use Rattle.std.proofs.Common.{◌≡◌, ◌↔◌, ◌+◌, ℕ, arith, inl, inr, min, Bool, true, false, List, [], ◌∷◌, ◌++◌, length, drop, refl, sym, ap, subst, ◌<◌, ◌∙◌, zero-add}
+use Rattle.std.proofs.Common.{◌≡◌, ◌↔◌, ◌+◌, ◌≤◌, nat_lt, take, Some, ℕ, arith, inl, inr, min, Bool, true, false, List, [], ◌∷◌, ◌++◌, length, drop, refl, sym, ap, subst, ◌<◌, ◌∙◌, zero-add}
 use Rattle.std.specs.Prelude.{slice_range}
-use Rattle.std.proofs.lemmas.List.{append-nil}
+use Rattle.std.proofs.lemmas.Bool.{cases_Bool, ltb-false}
+use Rattle.std.proofs.lemmas.List.{append-nil, length-drop, length-take}
 use Rattle.std.proofs.Math.Nat.{sub-zero}
 use Rattle.std.proofs.Math.Seq.{take-length, drop-length}
 use Rattle.frame_model.specs.declared.framing.Framing.{Framing}
 use Rattle.frame_model.specs.declared.framing.Framing.TheVariants.{Line}
 use Rattle.frame_model.specs.declared.framing.BadKind.{BadKind}
 use Rattle.frame_grammar.specs.declared.cutter.Cut.TheVariants as cuts
-use Rattle.frame_model.specs.Heads.{Layout, Counted, Lines, layout}
+use Rattle.frame_model.specs.declared.head.Head.TheVariants.{Told}
+use Rattle.frame_model.specs.Heads.{Heads, Layout, Counted, Lines, layout, told_by, told_in}
 use Rattle.frame_model.specs.Spelling.{head_of, longest_frame, tail_of}
-use Rattle.frame_model.specs.Cut.{Cutting, Front, Whole, Refused, Partial, front, last_line_in, verdict_in, cut, End, behind_frame, MayCome, IsRefused}
-use Rattle.frame_grammar.specs.Answers.{frame_in, frame_of, first_of, first_in, answer_in, answer_on, Tells}
-use Rattle.frame_model.proofs.HeadLemmas.{lines_is_line}
+use Rattle.frame_model.specs.Cut.{Cutting, Front, Whole, Refused, Partial, front, front_in, headed_front, last_line_in, verdict_in, cut, End, behind_frame, MayCome, IsRefused}
+use Rattle.frame_grammar.specs.declared.cutter.Cut.{Cut}
+use Rattle.frame_grammar.specs.Answers.{frame_in, frame_of, first_of, first_in, answer_in, answer_on, answer_within, HeadAnswers, Tells}
+use Rattle.frame_model.proofs.HeadLemmas.{AreLawful, IsLawful, lawful, lines_is_line, some_is}
 use Rattle.frame_model.proofs.FrontLemmas.{front_more, front_empty}
 use Rattle.frame_model.proofs.FrameLemmas.{frame_at, partial_short, spelling_len}
 use Rattle.frame_model.proofs.CutLemmas.{cut_whole, cut_refused, cut_partial}
@@ -96,6 +99,40 @@ told f max x at_end =
       | Refused kind ↦ λ e. rw e (cut_refused f max x kind at_end e)
       | Partial ↦ λ e. rw e (partial_told f max x at_end e)
     ]) refl
+
+-- ---- behind a head
+
+within_partial : (heads : Heads) (x : List ℕ) (at_end : Bool) → answer_within x at_end ≡ answer_in (Counted heads) x at_end Partial
+within_partial heads x false = refl
+within_partial heads [] true = refl
+within_partial heads (b ∷ x) true = refl
+
+frame_told : (heads : Heads) → AreLawful heads → (x : List ℕ) (h n : ℕ) → heads.tells x ≡ Told h n → h + n ≤ length x
+    → cuts.Frame h (h + n) (h + n) ≡ frame_in (Counted heads) x (take n (drop h x))
+frame_told heads laws x h n told whole =
+    let len : length (take n (drop h x)) ≡ n = omega (arith, length-take n (drop h x), length-drop h x, whole) in
+    let size : length (heads.writes n) ≡ h = sym (laws.counted x h n told) in
+    let least : min (h + n + 0) (length x) ≡ h + n = omega (arith, whole) in
+    rw (len, size, least) refl
+
+headed_answer : (heads : Heads) → AreLawful heads → (max : ℕ) (x : List ℕ) (at_end : Bool) (h n : ℕ) (answer : Cut) → heads.tells x ≡ Told h n
+    → HeadAnswers max x at_end h n answer → answer ≡ answer_in (Counted heads) x at_end (headed_front (heads.tells x) max x)
+headed_answer heads laws max x at_end h n answer told is = elim (cases_Bool (nat_lt max n)) [
+  | inl great ↦ rw (is, told, great) refl
+  | inr fits ↦ elim (cases_Bool (nat_lt (length x) (h + n))) [
+    | inl part ↦ rw (is, told, fits, part) (within_partial heads x at_end)
+    | inr whole ↦ rw (is, told, fits, whole) (frame_told heads laws x h n told (ltb-false (length x) (h + n) whole))
+  ]
+]
+
+behind_in : (l : Layout) → IsLawful l → (max : ℕ) (x : List ℕ) (at_end : Bool) (h n : ℕ) (answer : Cut) → told_in l x ≡ Some (Told h n)
+    → HeadAnswers max x at_end h n answer → answer ≡ answer_in l x at_end (front_in l max x)
+behind_in (Counted heads) laws max x at_end h n answer told is = headed_answer heads laws max x at_end h n answer (some_is (heads.tells x) (Told h n) told) is
+behind_in Lines laws max x at_end h n answer told is = absurd cc
+
+pub behind_told : (f : Framing) (max : ℕ) (x : List ℕ) (at_end : Bool) (h n : ℕ) (answer : Cut) → told_by f x ≡ Some (Told h n)
+    → HeadAnswers max x at_end h n answer → answer ≡ answer_on f x at_end (front f max x)
+behind_told f = behind_in (layout f) (lawful f)
 
 -- ---- no frame, however it goes on
 

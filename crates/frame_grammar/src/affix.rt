@@ -1,7 +1,8 @@
 //! What stands around a payload in its frame.
 
-ghost use Rattle.std.specs.Prelude.{◌≡◌, ◌≤◌, ◌∷◌, [], length};
+ghost use Rattle.std.specs.Prelude.{◌≡◌, ◌≤◌, ◌∷◌, [], length, take};
 
+use frame_model::GroupedLength;
 use std::marker::Model;
 
 /// The bytes before a payload in its frame, or those behind it: at most 4.
@@ -54,6 +55,17 @@ impl Affix {
         ensures { result ≡ bytes }
     {
         Affix { bytes, len: 4 }
+    }
+
+    pub(crate) fn of_groups(groups: GroupedLength) -> Affix
+        requires { groups.count ≤ 4 }
+        ensures { result ≡ take groups.count groups.bytes }
+    {
+        let bytes = groups.bytes;
+        Affix {
+            bytes,
+            len: groups.count,
+        }
     }
 
     /// The bytes themselves.

@@ -6,7 +6,7 @@ ghost use Rattle.span_seq.specs.Sequence.{bytes};
 
 use crate::affix::Affix;
 use crate::line_feed::{LINE_FEED, first_line_feed};
-use frame_model::{BadKind, Framing};
+use frame_model::{BadKind, Framing, groups_of};
 use span_seq::{Sequence, Spans};
 
 /// Whether a payload has a frame. The refusal is always `Unspellable`, at the index of the first byte for which it has none:
@@ -19,6 +19,7 @@ pub fn can_spell<C: Spans>(framing: Framing, payload: &Sequence<'_, C>) -> Resul
     let obstacle = match framing {
         Framing::Len4 => first_past(len, u64::from(u32::MAX)),
         Framing::Len2 => first_past(len, u64::from(u16::MAX)),
+        Framing::VLen => first_past(len, 0xfff_ffff),
         Framing::Line => first_line_feed(payload, 0),
     };
     match obstacle {
@@ -35,6 +36,7 @@ pub fn spell_head(framing: Framing, len: u64) -> Affix
     match framing {
         Framing::Len4 => Affix::of_four((len as u32).to_be_bytes()),
         Framing::Len2 => Affix::of_two((len as u16).to_be_bytes()),
+        Framing::VLen => Affix::of_groups(groups_of(len as u32)),
         Framing::Line => Affix::empty(),
     }
 }
@@ -44,7 +46,7 @@ pub fn spell_tail(framing: Framing) -> Affix
     ensures { result ≡ tail_of framing }
 {
     match framing {
-        Framing::Len4 | Framing::Len2 => Affix::empty(),
+        Framing::Len4 | Framing::Len2 | Framing::VLen => Affix::empty(),
         Framing::Line => Affix::of_one(LINE_FEED),
     }
 }

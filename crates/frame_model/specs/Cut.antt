@@ -1,5 +1,5 @@
 -- How an input is cut into frames.
-use Rattle.std.specs.Prelude.{ℕ, zero, suc, ◌≡◌, ◌≢◌, ◌+◌, ◌≤◌, ◌<◌, ◌⊎◌, nat_lt, nat_le, ◌&&◌, Bool, true, false, List, [], ◌∷◌, ◌++◌, length, take, drop, slice_index, IsNone, if◌then◌else◌}
+use Rattle.std.specs.Prelude.{ℕ, zero, suc, ◌≡◌, ◌≢◌, ◌+◌, ◌≤◌, ◌<◌, ◌^◌, ◌⊎◌, nat_lt, nat_le, ◌&&◌, Bool, true, false, List, [], ◌∷◌, ◌++◌, length, take, drop, slice_index, IsNone, if◌then◌else◌}
 use Rattle.std.specs.List.{position_or_len, AllByRecursion}
 use Rattle.std.specs.Int.{Width, byte_len, from_be_bytes}
 use Rattle.frame_model.specs.declared.framing.Framing.{Framing}
@@ -7,7 +7,7 @@ use Rattle.frame_model.specs.declared.framing.BadKind.{BadKind}
 use Rattle.frame_model.specs.declared.framing.BadKind.TheVariants.{TooBig, BadHead}
 use Rattle.frame_model.specs.declared.head.Head.{Head}
 use Rattle.frame_model.specs.declared.head.Head.TheVariants.{Short, Broken, Told}
-use Rattle.frame_model.specs.Heads.{Heads, Layout, Counted, Lines, layout}
+use Rattle.frame_model.specs.Heads.{Heads, groups, Layout, Counted, Lines, layout}
 use Rattle.frame_model.specs.Spelling.{is_line_feed, obstacle, text}
 
 -- What stands at the front of an input: a whole frame, with its payload and what follows it,
@@ -141,6 +141,21 @@ pub record IsNumberHead (w : Width) (x : List ℕ) (h n : ℕ) : Type 0 where
   pub whole : byte_len w ≤ length x
   pub size : h ≡ byte_len w
   pub number : n ≡ from_be_bytes w (take (byte_len w) x)
+
+-- A head of h bytes that tells n, where heads are groups of 7 bits: the input begins with n's only spelling.
+pub record IsGroupHead (x : List ℕ) (h n : ℕ) : Type 0 where
+  pub below : n < 2 ^ 28
+  pub size : h ≡ length (groups 4 n)
+  pub begins : take h x ≡ groups 4 n
+
+-- The first k bytes are no such head: 2 to 4 bytes of which all but the last are at least 128 and the last is 0, or 4 bytes
+-- that are all at least 128.
+pub record IsBadHead (x : List ℕ) (k : ℕ) : Type 0 where
+  pub some : 2 ≤ k
+  pub most : k ≤ 4
+  pub long : k ≤ length x
+  pub high : (i : ℕ) → suc i < k → 128 ≤ slice_index x i
+  pub last : (i : ℕ) → suc i ≡ k → (slice_index x i ≡ 0) ⊎ ((k ≡ 4) × (128 ≤ slice_index x i))
 
 -- ---- an input behind a frame
 

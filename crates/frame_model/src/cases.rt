@@ -61,3 +61,19 @@ pub fn greatest_payload_cases()
     ensures just_fits { translation_between Framing.Len4 Framing.Len2 65536 (0 ∷ 0 ∷ 255 ∷ 255 ∷ replicate 65535 97) true
         ≡ record { text = 255 ∷ 255 ∷ replicate 65535 97; verdict = End } }
 {}
+
+/// Heads in groups of 7 bits.
+pub fn group_cases()
+    ensures one { translation_between Framing.VLen Framing.Line 65536 (2 ∷ 104 ∷ 105 ∷ []) true ≡ record { text = 104 ∷ 105 ∷ 10 ∷ []; verdict = End } }
+    ensures longer_than_needed { translation_between Framing.VLen Framing.Line 65536 (1 ∷ 97 ∷ 128 ∷ 0 ∷ []) true
+        ≡ record { text = 97 ∷ 10 ∷ []; verdict = Bad 2 (BadKind.BadHead 2) } }
+    ensures unending { translation_between Framing.VLen Framing.Line 65536 (128 ∷ 128 ∷ 128 ∷ 128 ∷ []) true ≡ record { text = []; verdict = Bad 0 (BadKind.BadHead 4) } }
+    ensures part_of_head { translation_between Framing.VLen Framing.Line 65536 (128 ∷ []) true ≡ record { text = []; verdict = Rest 0 } }
+    ensures spelt { translation_between Framing.Line Framing.VLen 65536 (replicate 200 97 ++ 10 ∷ []) true
+        ≡ record { text = 200 ∷ 1 ∷ replicate 200 97; verdict = End } }
+    ensures too_big { translation_between Framing.VLen Framing.Len4 299 (172 ∷ 2 ∷ replicate 300 97) true ≡ record { text = []; verdict = Bad 0 (BadKind.TooBig 300) } }
+    ensures greatest { translation_between Framing.Line Framing.Line 268435455 (97 ∷ []) true ≡ record { text = 97 ∷ 10 ∷ []; verdict = End } }
+    ensures empty { front Framing.VLen 0 (0 ∷ []) ≡ Whole [] [] }
+    ensures two_groups { spelling Framing.VLen (replicate 128 97) ≡ 128 ∷ 1 ∷ replicate 128 97 }
+    ensures inside_head { front Framing.VLen 10 (128 ∷ 128 ∷ []) ≡ Partial }
+{}

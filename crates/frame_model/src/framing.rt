@@ -9,6 +9,8 @@ pub enum Framing {
     Len2,
     /// The payload, which has no line feed, and a line feed.
     Line,
+    /// The payload's length in groups of 7 bits, least significant first, in as few bytes as it needs, and the payload.
+    VLen,
 }
 
 /// Why a frame can't be relayed.

@@ -8,10 +8,12 @@ mod framing;
 mod head;
 mod laws;
 
-pub use cases::{cut_cases, greatest_payload_cases, spelling_cases, translation_cases};
+pub use cases::{
+    cut_cases, greatest_payload_cases, group_cases, spelling_cases, translation_cases,
+};
 pub use framing::{BadKind, Framing};
-pub use head::{Head, LONGEST_HEAD, head_at_front, heads_are_short};
+pub use head::{GroupedLength, Head, LONGEST_HEAD, groups_of, head_at_front, heads_are_short};
 pub use laws::{
-    bad_stays_bad, cut_is_longest, number_heads_in_words, open_until_the_end, refused_in_words,
-    spelling_in_words, text_only_grows,
+    bad_stays_bad, cut_is_longest, group_heads_in_words, number_heads_in_words, open_until_the_end,
+    refused_in_words, spelling_in_words, text_only_grows,
 };

@@ -11,6 +11,7 @@ pub fn generator_cases()
     ensures payload { payload 2 0 ≡ 34 ∷ 35 ∷ [] }
     ensures line { input 2 1 Framing.Line ≡ 34 ∷ 35 ∷ 10 ∷ [] }
     ensures len4 { text Framing.Len4 (payloads 2 0 1) ≡ 0 ∷ 0 ∷ 0 ∷ 2 ∷ 34 ∷ 35 ∷ [] }
+    ensures vlen { text Framing.VLen (payloads 2 0 1) ≡ 2 ∷ 34 ∷ 35 ∷ [] }
     ensures lens { map length (payloads 95 0 2) ≡ 95 ∷ 12 ∷ [] }
     ensures first { map (λ p. slice_index p 0) (payloads 95 0 2) ≡ 32 ∷ 33 ∷ [] }
     ensures lines { length (input 95 2 Framing.Line) ≡ 109 }

@@ -24,10 +24,12 @@ NAME     the path of a file, 1 to 255 bytes that don't end in .out; at most 256 
 IN and OUT
   len4    the payload's length in 4 bytes, most significant first, and then the payload
   len2    the payload's length in 2 bytes, most significant first, and then the payload
+  vlen    the payload's length in groups of 7 bits, least significant first, in 1 to 4 bytes, each but the last with its
+          high bit set and no more than are needed, and then the payload
   line    the payload, which has no line feed, and then a line feed; the last line of an input may lack it
 
 keys, in any order, each at most once
-  max=BYTES       the greatest payload, 0 to 16777216; 65536 where it isn't given
+  max=BYTES       the greatest payload, 0 to 268435455; 65536 where it isn't given
   seg=BYTES       the size of a segment of the pipe, 64 to 65536; 4096 where it isn't given
   pause=BYTES     the pipe's pause threshold, 0, for never, to 16777216; 65536 where it isn't given
   resume=BYTES    the pipe's resume threshold, 1 to 16777216, and at most the pause threshold where that isn't 0;
@@ -36,7 +38,7 @@ keys, in any order, each at most once
 status, with a line on standard error where it isn't 0
   0  all of the input was relayed
   1  the words are no command; nothing is read or written
-  2  a frame is too big, or OUT can't spell its payload; what came before it is written, and nothing after it
+  2  a frame is too big or has a bad head, or OUT can't spell its payload; what came before it is written, and nothing after it
   3  the input ends within a frame; what came before that is written
   4  standard input, or the file of a name, can't be read; the whole frames that were read are written
   5  standard output, or the output of a name, can't be written; what was written before stays, and may end within a frame

@@ -191,6 +191,7 @@ fn frames_stay(job: &Job) -> bool
         (job.input, job.output),
         (Framing::Len4, Framing::Len4)
             | (Framing::Len2, Framing::Len2)
+            | (Framing::VLen, Framing::VLen)
             | (Framing::Line, Framing::Line)
     )
 }

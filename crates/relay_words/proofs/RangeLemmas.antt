@@ -98,7 +98,7 @@ job_made input output keys = record {
 made_range : (input output : Framing) (words : List (List ℕ)) → above (pause_in (keys_among words)) (keys_among words).resume ≡ None → IsInRange (job_made input output (keys_among words))
 made_range input output words q =
     let keys = keys_among words in
-    let max : Within 0 16777216 (number_or 65536 keys.max) = or_range 65536 0 16777216 keys.max (omega arith, omega arith) (among_range max_of 0 16777216 (λ word n e. key_range (codes "max=") 0 16777216 word n e) 3 words) in
+    let max : Within 0 268435455 (number_or 65536 keys.max) = or_range 65536 0 268435455 keys.max (omega arith, omega arith) (among_range max_of 0 268435455 (λ word n e. key_range (codes "max=") 0 268435455 word n e) 3 words) in
     let seg : Within 64 65536 (number_or 4096 keys.seg) = or_range 4096 64 65536 keys.seg (omega arith, omega arith) (among_range seg_of 64 65536 (λ word n e. key_range (codes "seg=") 64 65536 word n e) 3 words) in
     let pause : Within 0 16777216 (pause_in keys) = or_range 65536 0 16777216 keys.pause (omega arith, omega arith) (among_range pause_of 0 16777216 (λ word n e. key_range (codes "pause=") 0 16777216 word n e) 3 words) in
     let resume : Within 1 16777216 (number_or (usual_resume (pause_in keys)) keys.resume) = or_range (usual_resume (pause_in keys)) 1 16777216 keys.resume (usual_range (pause_in keys)) (among_range resume_of 1 16777216 (λ word n e. key_range (codes "resume=") 1 16777216 word n e) 3 words) in

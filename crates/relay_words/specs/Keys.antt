@@ -14,7 +14,7 @@ number_of_key name least greatest word =
     else None
 
 abbrev pub max_of : List ℕ → Option ℕ
-max_of word = number_of_key (codes "max=") 0 16777216 word
+max_of word = number_of_key (codes "max=") 0 268435455 word
 
 abbrev pub seg_of : List ℕ → Option ℕ
 seg_of word = number_of_key (codes "seg=") 64 65536 word

@@ -4,7 +4,7 @@ use Rattle.std.specs.declared.alloc.Global.{Global}
 use Rattle.std.specs.List.{prefix_len}
 use Rattle.std.specs.Str.{bytes_eq}
 use Rattle.frame_model.specs.declared.framing.Framing.{Framing}
-use Rattle.frame_model.specs.declared.framing.Framing.TheVariants.{Len4, Len2, Line}
+use Rattle.frame_model.specs.declared.framing.Framing.TheVariants.{Len4, Len2, VLen, Line}
 use Rattle.frame_grammar.specs.declared.job.Job.{Job}
 use Rattle.relay_words.specs.declared.command.Command.{Command}
 use Rattle.relay_words.specs.declared.command.Command.TheVariants.{Local, Threaded}
@@ -33,6 +33,7 @@ abbrev pub framing_of : List ℕ → Option Framing
 framing_of word =
     if bytes_eq word (codes "len4") then Some Len4
     else if bytes_eq word (codes "len2") then Some Len2
+    else if bytes_eq word (codes "vlen") then Some VLen
     else if bytes_eq word (codes "line") then Some Line
     else None
 

@@ -28,13 +28,14 @@ pub fn word_cases()
     ensures twice { command_of (codes "copy" ∷ codes "line" ∷ codes "len4" ∷ codes "max=1" ∷ codes "max=1" ∷ []) ≡ Err 4 }
     ensures another_word { command_of (codes "copy" ∷ codes "line" ∷ codes "len4" ∷ codes "x" ∷ []) ≡ Err 3 }
     ensures another_case { command_of (codes "Copy" ∷ codes "line" ∷ codes "len4" ∷ []) ≡ Err 0 }
-    ensures too_great { command_of (codes "copy" ∷ codes "line" ∷ codes "len4" ∷ codes "max=16777217" ∷ []) ≡ Err 3 }
+    ensures too_great { command_of (codes "copy" ∷ codes "line" ∷ codes "len4" ∷ codes "max=268435456" ∷ []) ≡ Err 3 }
     ensures key_twice { command_of (codes "copy" ∷ codes "line" ∷ codes "len4" ∷ codes "seg=64" ∷ codes "seg=65" ∷ []) ≡ Err 4 }
     ensures small_segment { command_of (codes "copy" ∷ codes "line" ∷ codes "len4" ∷ codes "seg=63" ∷ []) ≡ Err 3 }
     ensures no_resume { command_of (codes "copy" ∷ codes "line" ∷ codes "len4" ∷ codes "pause=0" ∷ codes "resume=0" ∷ []) ≡ Err 4 }
     ensures above_usual_pause { command_of (codes "copy" ∷ codes "line" ∷ codes "len4" ∷ codes "resume=70000" ∷ []) ≡ Err 3 }
     ensures above_pause { command_of (codes "copy" ∷ codes "line" ∷ codes "line" ∷ codes "resume=9" ∷ codes "pause=8" ∷ []) ≡ Err 3 }
     ensures above_pause_and_unread { command_of (codes "copy" ∷ codes "line" ∷ codes "line" ∷ codes "resume=9" ∷ codes "pause=8" ∷ codes "x" ∷ []) ≡ Err 5 }
+    ensures groups { command_of (codes "copy" ∷ codes "line" ∷ codes "vlen" ∷ codes "max=268435455" ∷ []) ≡ line_job Framing.VLen 268435455 4096 65536 32768 }
     ensures plain { command_of (codes "copy" ∷ codes "line" ∷ codes "len2" ∷ []) ≡ line_job Framing.Len2 65536 4096 65536 32768 }
     ensures no_payload { command_of (codes "copy" ∷ codes "line" ∷ codes "len4" ∷ codes "seg=64" ∷ codes "max=0" ∷ []) ≡ line_job Framing.Len4 0 64 65536 32768 }
     ensures below_usual_resume { command_of (codes "copy" ∷ codes "line" ∷ codes "len4" ∷ codes "pause=100" ∷ []) ≡ line_job Framing.Len4 65536 4096 100 100 }

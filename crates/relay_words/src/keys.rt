@@ -53,7 +53,7 @@ impl Keys {
     fn with(self, word: &str, at: usize) -> Option<Keys>
         ensures { result ≡ if adds self word.now then Some (keys_with at word.now self) else None }
     {
-        let max = number_of_key("max=", 0, 16_777_216, word);
+        let max = number_of_key("max=", 0, 268_435_455, word);
         let seg = number_of_key("seg=", 64, 65_536, word);
         let pause = number_of_key("pause=", 0, 16_777_216, word);
         let resume = number_of_key("resume=", 1, 16_777_216, word);

@@ -199,6 +199,7 @@ pub(crate) fn framing(word: &str) -> Option<Framing>
     match word {
         "len4" => Some(Framing::Len4),
         "len2" => Some(Framing::Len2),
+        "vlen" => Some(Framing::VLen),
         "line" => Some(Framing::Line),
         _ => None,
     }

@@ -17,5 +17,12 @@ loop-place-preserved c =
       within = omega (arith, so_far.within, whole.within.1, length-drop c.loop-place.len c.args.bytes.now);
     }
 
+pub loop-place-smaller : goal.loop-place-smaller
+loop-place-smaller c =
+    let so_far = c.loop-place.invariant in
+    let place = c.in-Some.place in
+    let whole = rw c.behind.ensures at c.in-Some.ensures.whole in
+    omega (arith, some c.args.framing c.args.max (drop c.loop-place.len c.args.bytes.now) place.from place.len place.end whole, so_far.within, whole.within.1, length-drop c.loop-place.len c.args.bytes.now)
+
 pub returns-clause-all : goal.returns-clause-all
 returns-clause-all c = rw c.behind.ensures at c.in_default.ensures.none

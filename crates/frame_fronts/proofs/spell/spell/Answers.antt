@@ -23,5 +23,14 @@ loop-place-preserved c =
       kept = c.put-end.ensures.kept ∙ so_far.kept;
     }
 
+pub loop-place-smaller : goal.loop-place-smaller
+loop-place-smaller c =
+    let so_far = c.loop-place.invariant in
+    let place = c.in-Some.place in
+    let rest = drop c.loop-place.len c.args.bytes.now in
+    let next = rw c.behind.ensures at c.in-Some.ensures.next in
+    let whole = next.whole in
+    omega (arith, some c.args.input c.args.max rest place.from place.len place.end whole, so_far.within, whole.within.1, length-drop c.loop-place.len c.args.bytes.now)
+
 pub returns-clause-left : goal.returns-clause-left
 returns-clause-left c = rw (c.behind.ensures, c.loop-place.invariant.most, c.loop-place.invariant.kept) at c.in_default.ensures.left
