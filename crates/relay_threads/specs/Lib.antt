@@ -1,2 +1,3 @@
 pub mod NewEnds
 pub mod Rented
+pub mod Serve

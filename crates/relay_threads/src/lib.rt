@@ -9,6 +9,8 @@ mod batch_tests;
 mod batching;
 mod pumping;
 mod returning;
+mod serve_end;
+mod serving;
 mod summary;
 mod telling;
 #[cfg(test)]
@@ -19,5 +21,7 @@ pub use batching::{Finished, Task, batch};
 pub use pumping::{Pumped, pump, settle};
 pub use relay_engine::settled_pump_is_reported;
 pub use returning::give_back;
+pub use serve_end::{Ending, Numbered, ServeEnd};
+pub use serving::serve;
 pub use summary::{tell_broken_off, write_summary};
 pub use telling::{cause_of, report_on, tell_answer, tell_no_memory};
