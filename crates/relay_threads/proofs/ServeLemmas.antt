@@ -1,27 +1,26 @@
 -- One connection behind the other.
 use Rattle.std.proofs.Common.{◌≡◌, ◌<◌, ◌≤◌, ◌+◌, ◌*◌, ℕ, zero, suc, Bool, true, false, List, [], ◌∷◌, ◌++◌, length, drop, Option, Some, None, IfSome, refl, sym, ap, ◌∙◌, subst, append_assoc, append-nil, arith, if◌then◌else◌}
 use Rattle.std.specs.Prelude.{decimal, option_map, slice_get}
-use Rattle.std.specs.List.{flat_map}
 use Rattle.std.specs.Io.KnownBytes.{Appends, Keeps}
 use Rattle.std.proofs.lemmas.List.{length-append}
 use Rattle.std.proofs.lemmas.Grind.{flat_map-append}
 use Rattle.std.proofs.KnownBytes.{Appends-nil}
 use Rattle.edge_core.specs.Device.{HasRisen, SinkFails, SinkState, SourceState, Takes, TakesFront}
-use Rattle.edge_core.specs.Doors.{Accepts, CountsFaults, Device, DoorsState, FailsWith, HasBytes, Listens, OpensOutlet, TakesBackInlet, Told, an_inlet, an_outlet}
+use Rattle.edge_core.specs.Doors.{Accepts, CountsFaults, Device, DoorsState, FailsWith, HasBytes, Listens, OpensOutlet, TakesBackInlet, Told, an_inlet}
 use Rattle.edge_core.specs.declared.doors.DoorError.{DoorError}
 use Rattle.edge_core.specs.declared.doors.DoorError.TheVariants.{Failed, OutOfMemory}
 use Rattle.edge_core.proofs.DeviceLemmas.{Takes-trans, front_behind}
 use Rattle.frame_grammar.specs.declared.job.Job.{Job}
 use Rattle.relay_model.specs.Answers.{Answer, Finishes, Relayed, answer_line, answer_lines, answers, first_failed, returned, status_of_answer}
-use Rattle.relay_model.specs.Devices.{Devices, HandsBack, HasComeBack, both, devices_of, faults_among, with_all, with_unused}
+use Rattle.relay_model.specs.Devices.{HasComeBack, both, devices_of, faults_among, with_all, with_unused}
 use Rattle.relay_model.specs.Status.{is_clean}
-use Rattle.relay_model.proofs.DevicesLemmas.{back_in_turn, counts_both, doors_are, faults_among-append, nothing_back, one_back}
+use Rattle.relay_model.proofs.DevicesLemmas.{counts_both, doors_are, faults_among-append, one_back}
 use Rattle.seg_pool.specs.declared.books.PassBooks.{PassBooks}
 use Rattle.seg_pool.specs.Words.{Adds}
 use Rattle.relay_threads.specs.declared.serve_end.Ending.{Ending}
 use Rattle.relay_threads.specs.declared.serve_end.Ending.TheVariants as served
 use Rattle.relay_threads.specs.declared.serve_end.Numbered.{Numbered}
-use Rattle.relay_threads.specs.Serve.{AreServed, FailsToServe, HasServed, IsBrokenOff, IsDeaf, IsNotConnected, IsRefused, IsServed, IsServedAll, Serves, ServesOne, bytes_behind, first_of, labelled, listening, numbers, served_lines, with_accepted, without_incoming}
+use Rattle.relay_threads.specs.Serve.{AreServed, FailsToServe, HasServed, IsBrokenOff, IsNotConnected, IsRefused, IsServed, IsServedAll, Serves, ServesOne, bytes_behind, first_of, labelled, listening, numbers, served_lines, with_accepted, without_incoming}
 
 -- ---- what doors tell
 
