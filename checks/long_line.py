@@ -11,9 +11,9 @@ import tempfile
 MEGABYTE = 1 << 20
 SHORT, LONG = 4, 32  # megabytes
 RUNS = 5
-# The greatest ratio. Work that is linear comes to some 8 to 12, by what the caches hold, and a search from the front at each
-# read to about 64.
-MOST = 24
+# The greatest ratio. The bytes come to 8; that each lend goes over its segments adds as much for so long a line. A search from
+# the front at each read comes to about 64.
+MOST = 36
 
 
 def processor_time(megabytes):
