@@ -1,4 +1,4 @@
-"""Copies a line of 4 MB and one of 32 MB, each as long as may be, and compares the times that the processor takes.
+"""Copies a line of 8 MB and one of 32 MB, each as long as may be, and compares the times that the processor takes.
 
 usage: long_line.py PROGRAM
 """
@@ -9,11 +9,11 @@ import sys
 import tempfile
 
 MEGABYTE = 1 << 20
-SHORT, LONG = 4, 32  # megabytes
+SHORT, LONG = 8, 32  # megabytes
 RUNS = 5
-# The greatest ratio. The bytes come to 8; that each lend goes over its segments adds as much for so long a line. A search from
-# the front at each read comes to about 64.
-MOST = 36
+# The greatest ratio. The bytes come to 4, and that each lend goes over its segments makes it about 8. A search from the front
+# at each read comes to about 16, and to more with that.
+MOST = 14
 
 
 def processor_time(megabytes):
