@@ -11,9 +11,9 @@ import tempfile
 MEGABYTE = 1 << 20
 SHORT, LONG = 8, 32  # megabytes
 RUNS = 5
-# The greatest ratio. The bytes come to 4, and that each lend goes over its segments makes it about 8. A search from the front
-# at each read comes to about 16, and to more with that.
-MOST = 14
+# The greatest ratio: the bytes come to 4. A look at each segment at each read comes to about 8, and a search from the front at
+# each read to 16.
+MOST = 6
 
 
 def processor_time(megabytes):

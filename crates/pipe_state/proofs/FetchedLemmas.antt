@@ -3,6 +3,7 @@ use Rattle.std.proofs.Common.{◌≡◌, ◌≤◌, ◌+◌, ◌-◌, ℕ, suc, 
 use Rattle.std.specs.Prelude.{slice_get, is_some, IfSome}
 use Rattle.std.specs.List.{AllByRecursion}
 use Rattle.std.proofs.lemmas.List.{length-append, map-append}
+use Rattle.std.proofs.lemmas.Grind.{flat_map-append}
 use mathlib.Core.List.{IsPrefix}
 use Rattle.circular_buffer.specs.Buffer.{last_item}
 use Rattle.seg_block.specs.Words.{marked, seen, SameFront}
@@ -10,7 +11,8 @@ use Rattle.seg_block.specs.declared.front.SegFront.{SegFront}
 use Rattle.seg_block.specs.declared.tail.Mark.{Mark}
 use Rattle.seg_block.specs.declared.tail.TailEnd.{TailEnd}
 use Rattle.pipe_state.specs.Fetched.{Fetched, Continues, FitsLast, Fits, AllFit, IsEnd, all_fetched, arrive, arrived, continued, continue_last, fetched_front, fetched_of, label_of}
-use Rattle.pipe_state.specs.Chains.{IsChain, IsLink, first_len}
+use Rattle.pipe_state.specs.Chains.{Counts, IsChain, IsLink, first_len}
+use Rattle.pipe_state.specs.Released.{bytes_in}
 use Rattle.pipe_state.specs.declared.arrival.Arrival.{Arrival}
 use Rattle.pipe_state.specs.declared.arrival.Link.{Link}
 use Rattle.pipe_state.proofs.ListLemmas.{all_before, all_behind, first_apart, last_apart, whole_prefix}
@@ -55,35 +57,43 @@ extended links links' link g m end last fits is same prefix long =
     ∙ ap (λ s. all_fetched init ++ s ∷ []) (learnt link.front g m end same prefix long (last_link links link m end last fits).longer)
     ∙ sym (last_goes_on (all_fetched init) (fetched_of link) m end) ∙ ap (λ l. continue_last l m end) (sym (behind links link last))
 
-pub added : (links links' : List Link) (f g : SegFront) (m : Mark) (end : Option TailEnd) → Continues (fetched_front f) m end → links' ≡ links ++ record { front = g; end = end } ∷ []
-    → SameFront f g → IsPrefix (marked m) (seen g) → length (seen g) ≡ max (length (seen f)) (length (marked m))
-    → all_fetched links' ≡ all_fetched links ++ continued (fetched_front f) m end ∷ []
-added links links' f g m end continues is same prefix long =
-    ap all_fetched is ∙ map-append fetched_of links (record { front = g; end = end } ∷ [])
-    ∙ ap (λ s. all_fetched links ++ s ∷ []) (learnt f g m end same prefix long continues.longer)
-
 -- what was consumed of the first segment is within it still
 pub first_goes_on : (fetched : List Fetched) (m : Mark) (end : Option TailEnd) → FitsLast fetched m end → first_len fetched ≤ first_len (continue_last fetched m end)
 first_goes_on [] m end fits = omega arith
 first_goes_on (s ∷ []) m end fits = fits.longer
 first_goes_on (s ∷ t ∷ fetched) m end fits = omega arith
 
+-- how many bytes links have with one more behind them
+held_behind : (links : List Link) (link : Link) → length (bytes_in (all_fetched (links ++ link ∷ []))) ≡ length (bytes_in (all_fetched links)) + length (seen link.front)
+held_behind links link =
+    let apart = ap (λ l. length (bytes_in l)) (map-append fetched_of links (link ∷ [])) in
+    let bytes = ap length (flat_map-append (λ (s : Fetched). s.bytes) (all_fetched links) (fetched_of link ∷ [])) in
+    let len = length-append (bytes_in (all_fetched links)) (bytes_in (fetched_of link ∷ [])) in
+    let one = length-append (seen link.front) [] in
+    omega arith
+
 -- the chain is one still
-pub extended_chain : (links links' : List Link) (skip : ℕ) (link : Link) (g : SegFront) (m : Mark) (end : Option TailEnd) → last_item links ≡ Some link → FitsLast (all_fetched links) m end
+pub extended_chain : (links links' : List Link) (skip : ℕ) (held held' : Option ℕ) (link : Link) (g : SegFront) (m : Mark) (end : Option TailEnd) → last_item links ≡ Some link → FitsLast (all_fetched links) m end
     → links' ≡ take (length links - 1) links ++ record { front = g; end = end } ∷ []
     → SameFront link.front g → IsPrefix (marked m) (seen g) → length (seen g) ≡ max (length (seen link.front)) (length (marked m))
-    → IsChain links skip → IsChain links' skip
-extended_chain links links' skip link g m end last fits is same prefix long chain =
+    → ((n : ℕ) → Counts held n → Counts held' (n + (length (seen g) - length (seen link.front))))
+    → IsChain links skip held → IsChain links' skip held'
+extended_chain links links' skip held held' link g m end last fits is same prefix long more chain =
     let init : List Link = take (length links - 1) links in
     let label : label_of link.front ≡ label_of g = λ i. record { part = sym same.0 i; id = sym same.1 i; size = sym same.2 i } in
     let ends : IfSome end (IsEnd (label_of g)) = subst (λ l. IfSome end (IsEnd l)) label (last_link links link m end last fits).ends in
     let before = all_before IsLink init link (subst (AllByRecursion IsLink) (sym (last_apart links link last)) chain.ends) in
     let had = chain.within in
-    let more = first_goes_on (all_fetched links) m end fits in
+    let goes_on = first_goes_on (all_fetched links) m end fits in
     let now = ap first_len (extended links links' link g m end last fits is same prefix long) in
+    let old_len = held_behind init link in
+    let old = ap (λ l. length (bytes_in (all_fetched l))) (last_apart links link last) in
+    let new_len = held_behind init (record { front = g; end = end }) in
+    let new = ap (λ l. length (bytes_in (all_fetched l))) is in
     record {
-      within = omega (arith, had, more, now);
+      within = omega (arith, had, goes_on, now);
       ends = subst (AllByRecursion IsLink) (sym is) (all_behind IsLink init (record { front = g; end = end }) before ends);
+      counted = subst (Counts held') (omega (arith, old_len, old, new_len, new, long)) (more (length (bytes_in (all_fetched links))) chain.counted);
     }
 
 pub first_stays : (fetched : List Fetched) (segment : Fetched) (n : ℕ) → n ≤ first_len fetched → n ≤ first_len (fetched ++ segment ∷ [])

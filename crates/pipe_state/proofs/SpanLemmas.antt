@@ -52,5 +52,8 @@ spans_bytes skip [] within = refl
 spans_bytes skip (s ∷ fetched) within =
     ap (λ b. drop skip s.bytes ++ b) (later_bytes fetched) ∙ sym (drop-append-le skip s.bytes (bytes_of (runs_of fetched)) within) ∙ sym (dropped_bytes skip (runs_of (s ∷ fetched)))
 
-pub all_bytes : (xss : List (List ℕ)) → spans.bytes_of (whole_of xss) ≡ concat xss
+all_bytes : (xss : List (List ℕ)) → spans.bytes_of (whole_of xss) ≡ concat xss
 all_bytes xss = take_all (length (concat xss) - 0) (concat xss) (omega arith)
+
+pub lent_bytes : (skip : ℕ) (fetched : List Fetched) (part : spans.Part) → skip ≤ first_len fetched → part ≡ whole_of (spans_of skip fetched) → spans.bytes_of part ≡ bytes_of (drop_bytes skip (runs_of fetched))
+lent_bytes skip fetched part within all = ap (λ p. spans.bytes_of p) all ∙ all_bytes (spans_of skip fetched) ∙ spans_bytes skip fetched within

@@ -1,6 +1,6 @@
 //! The chain.
 
-ghost use Rattle.std.specs.Prelude.{◌≡◌, ◌≤◌, ◌<◌, ◌+◌, ◌^◌, ◌∷◌, ◌++◌, [], length, Some, None, IfOk, slice_get};
+ghost use Rattle.std.specs.Prelude.{◌≡◌, ◌≤◌, ◌<◌, ◌+◌, ◌^◌, ◌∷◌, ◌++◌, ℕ, [], length, Some, None, IfOk, slice_get};
 ghost use Rattle.circular_buffer.specs.Buffer.{buffer};
 ghost use Rattle.pipe_state.specs.Fetched.{AllFit, Continues, Fits, FitsLast, arrive, arrived, all_fetched, continued, continue_last, fetched_front};
 ghost use Rattle.span_seq.specs.Sequence.{bytes, part};
@@ -8,7 +8,7 @@ ghost use Rattle.span_seq.specs.Spans.{whole_of};
 ghost use Rattle.pipe_core.specs.History.{bytes_of};
 ghost use Rattle.pipe_core.specs.Lends.{drop_bytes};
 ghost use Rattle.pipe_state.specs.Lying.{runs_of};
-ghost use Rattle.pipe_state.specs.Chains.{front_at, spans_of};
+ghost use Rattle.pipe_state.specs.Chains.{Counts, front_at, spans_of};
 
 use crate::arrival::{Arrival, Link};
 use crate::rings::put_behind;
@@ -24,6 +24,8 @@ pub struct Chain {
     pub(crate) links: HeapCircularBuffer<Link>,
     // How many bytes of the first are consumed.
     pub(crate) skip: usize,
+    // How many bytes they have, where 64 bits tell it.
+    pub(crate) held: Option<u64>,
 }
 
 impl Model for Chain {
@@ -33,7 +35,7 @@ impl Model for Chain {
 
     ghost view = { λ c. record { links = c.links.items; skip = c.skip; capacity = c.links.capacity } };
 
-    ghost invariant = { λ c. IsChain c.links.items c.skip };
+    ghost invariant = { λ c. IsChain c.links.items c.skip c.held };
 }
 
 impl Chain {
@@ -44,6 +46,7 @@ impl Chain {
         Ok(Chain {
             links: HeapCircularBuffer::with_capacity(alloc, segments)?,
             skip: 0,
+            held: Some(0),
         })
     }
 
@@ -57,7 +60,9 @@ impl Chain {
         let _count = self.links.len();
         match self.links.pop_back() {
             Some(Link { mut front, end: _ }) => {
+                let before = front.seen().len();
                 front.learn(mark);
+                self.held = count_more(self.held, front.seen().len() - before);
                 put_behind(&mut self.links, Link { front, end });
             }
             None => unreachable!(),
@@ -74,6 +79,7 @@ impl Chain {
     {
         let mut front = front;
         front.learn(mark);
+        self.held = count_more(self.held, front.seen().len());
         put_behind(&mut self.links, Link { front, end });
     }
 
@@ -116,7 +122,17 @@ impl Chain {
         ensures bytes { bytes result ≡ bytes_of (drop_bytes self.now.skip (runs_of (all_fetched self.now.links))) }
     {
         let _ = &self.links;
-        Sequence::whole(self)
+        match self.len() {
+            Some(len) => Sequence::whole_with_len(self, len),
+            None => Sequence::whole(self),
+        }
+    }
+
+    // How many bytes lie behind what is consumed, where 64 bits tell it.
+    fn len(&self) -> Option<u64>
+        ensures { Counts result (length (bytes_of (drop_bytes self.now.skip (runs_of (all_fetched self.now.links))))) }
+    {
+        Some(self.held? - self.skip as u64)
     }
 
     /// The front of the segment in which a span lies.
@@ -129,6 +145,20 @@ impl Chain {
             None => unreachable!(),
         }
     }
+}
+
+// What `held` counts, and so many more.
+fn count_more(held: Option<u64>, more: usize) -> Option<u64>
+    ensures { (n : ℕ) → Counts held n → Counts result (n + more) }
+{
+    held?.checked_add(more as u64)
+}
+
+// What `held` counts, but so many.
+pub(crate) fn count_fewer(held: Option<u64>, fewer: usize) -> Option<u64>
+    ensures { (n : ℕ) → Counts held (n + fewer) → Counts result n }
+{
+    held?.checked_sub(fewer as u64)
 }
 
 impl Spans for Chain {

@@ -6,7 +6,7 @@ ghost use Rattle.pipe_state.specs.Chains.{IsLink, first_len};
 ghost use Rattle.pipe_state.specs.Released.{FinishedBefore, block_in, blocks_in, bytes_in, first_goes, left_after, names_of, skip_after};
 
 use crate::arrival::Link;
-use crate::chain::Chain;
+use crate::chain::{Chain, count_fewer};
 use crate::rings::put_behind;
 use circular_buffer::HeapCircularBuffer;
 use seg_block::{Block, block_of};
@@ -93,7 +93,10 @@ impl Chain {
     {
         self.skip = 0;
         match self.links.pop_front() {
-            Some(link) => put_home(link, home),
+            Some(link) => {
+                self.held = count_fewer(self.held, link.front.seen().len());
+                put_home(link, home);
+            }
             None => unreachable!(),
         }
     }

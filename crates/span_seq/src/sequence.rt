@@ -1,6 +1,6 @@
 //! A part of the concatenated spans.
 
-ghost use Rattle.std.specs.Prelude.{◌≡◌, ◌==◌, ◌+◌, ◌-◌, ◌^◌, ◌<◌, ◌≤◌, ◌↔◌, ◌∷◌, ◌++◌, [], length, min, take, drop, All, IsTrue, IsNone, IsSome, IfNone, IfSome, IfOk, option_map, position, slice_index_or, slice_range};
+ghost use Rattle.std.specs.Prelude.{true, ◌≡◌, ◌==◌, ◌+◌, ◌-◌, ◌^◌, ◌<◌, ◌≤◌, ◌↔◌, ◌∷◌, ◌++◌, [], length, min, take, drop, All, IsTrue, IsNone, IsSome, IfNone, IfSome, IfOk, option_map, position, slice_index_or, slice_range};
 ghost use Rattle.std.specs.List.{concat};
 ghost use Rattle.span_seq.specs.Spans.{Holds, IsAt, IsAtByte, IsPart, size_of, spans_of, whole_of};
 
@@ -8,21 +8,25 @@ use crate::position::Position;
 use crate::search::{Byte, Search};
 use crate::span_iter::SpanIter;
 use crate::spans::Spans;
-use crate::walk::{Cursor, seek, seek_back, total_len};
+use crate::walk::{Cursor, before_end, seek, seek_back, total_len};
 use std::alloc::{AllocError, Global};
 
 /// A part of the concatenated spans, as .NET's `ReadOnlySequence<byte>`. To copy it copies no byte.
 ///
-/// Nothing that it is asked joins spans. A call that looks for a place takes a step for each span that lies before it.
+/// Nothing that it is asked joins spans. A call that looks for a place takes a step for each span that lies before it, or, where
+/// the sequence reaches the end of the spans and the place is nearer to that, for each span behind it.
 pub struct Sequence<'a, C: Spans> {
     spans: &'a C,
     start: Cursor,
     from: u64,
     len: u64,
+    // Nothing of the spans lies behind it.
+    reaches_end: bool,
     ghost within: { from + len ≤ size_of (C.spans spans.now) },
     ghost counted: { size_of (C.spans spans.now) ≤ 2 ^ 62 },
     ghost placed: { IsAt (C.spans spans.now) from start.index start.skip },
     ghost begins: { 0 < len → IsAtByte (C.spans spans.now) from start.index start.skip },
+    ghost ends: { reaches_end ≡ true → from + len ≡ size_of (C.spans spans.now) },
 }
 
 impl<C: Spans> Clone for Sequence<'_, C> {
@@ -39,13 +43,22 @@ impl<'a, C: Spans> Sequence<'a, C> {
     ghost use Rattle.span_seq.specs.Sequence.{bytes, part};
     ghost use Rattle.span_seq.specs.SpanIter.{spans_left};
 
-    /// All of the spans.
+    /// All of the spans, whose bytes are counted.
     #[inline]
     pub fn whole(spans: &'a C) -> Self
         requires { size_of (C.spans spans.now) ≤ 2 ^ 62 }
         ensures part { part result ≡ whole_of (C.spans spans.now) }
     {
-        let len = total_len(spans);
+        Sequence::whole_with_len(spans, total_len(spans))
+    }
+
+    /// All of the spans, which have `len` bytes.
+    #[inline]
+    pub fn whole_with_len(spans: &'a C, len: u64) -> Self
+        requires counted { len ≡ size_of (C.spans spans.now) }
+        requires bound { len ≤ 2 ^ 62 }
+        ensures part { part result ≡ whole_of (C.spans spans.now) }
+    {
         let start = if len == 0 {
             Cursor { index: 0, skip: 0 }
         } else {
@@ -56,6 +69,7 @@ impl<'a, C: Spans> Sequence<'a, C> {
             start,
             from: 0,
             len,
+            reaches_end: true,
         }
     }
 
@@ -156,6 +170,7 @@ impl<'a, C: Spans> Sequence<'a, C> {
             start: behind.start,
             from: behind.from,
             len: to.place() - from.place(),
+            reaches_end: behind.reaches_end && to == self.end(),
         }
     }
 
@@ -166,23 +181,37 @@ impl<'a, C: Spans> Sequence<'a, C> {
         ensures part { part result ≡ record (part self.now) { from = (part self.now).from + count } }
         ensures bytes { bytes result ≡ drop count (bytes self.now) }
     {
-        let skip = self.start.skip as u64;
-        let start = if count == 0 {
-            self.start
-        } else if count < self.len {
-            seek(self.spans, self.start.index, skip + count)
-        } else {
-            let last = seek(self.spans, self.start.index, skip + count - 1);
-            Cursor {
-                index: last.index,
-                skip: last.skip + 1,
-            }
-        };
         Sequence {
             spans: self.spans,
-            start,
+            start: self.behind(count),
             from: self.from + count,
             len: self.len - count,
+            reaches_end: self.reaches_end,
+        }
+    }
+
+    // The place behind its first `count` bytes, sought from the nearer end.
+    #[inline]
+    fn behind(&self, count: u64) -> Cursor
+        requires { count ≤ length (bytes self.now) }
+        ensures at { IsAt (C.spans self.now.spans.now) ((part self.now).from + count) result.index result.skip }
+        ensures byte { (part self.now).from + count < (part self.now).to → IsAtByte (C.spans self.now.spans.now) ((part self.now).from + count) result.index result.skip }
+    {
+        if count == 0 {
+            return self.start;
+        }
+        let left = self.len - count;
+        if self.reaches_end && left < count {
+            return before_end(self.spans, left);
+        }
+        let offset = self.start.skip as u64 + count;
+        if left > 0 {
+            return seek(self.spans, self.start.index, offset);
+        }
+        let last = seek(self.spans, self.start.index, offset - 1);
+        Cursor {
+            index: last.index,
+            skip: last.skip + 1,
         }
     }
 
@@ -199,6 +228,7 @@ impl<'a, C: Spans> Sequence<'a, C> {
             start: seek_back(self.spans, self.start, count),
             from: self.from - count,
             len: self.len + count,
+            reaches_end: self.reaches_end,
         }
     }
 

@@ -65,3 +65,20 @@ pub(crate) fn seek_back<C: Spans>(spans: &C, from: Cursor, count: u64) -> Cursor
         skip: ahead - left as usize,
     }
 }
+
+/// The place `count` bytes before the end of the spans.
+#[inline]
+pub(crate) fn before_end<C: Spans>(spans: &C, count: u64) -> Cursor
+    requires { count ≤ size_of (C.spans spans.now) }
+    ensures at { IsAt (C.spans spans.now) (size_of (C.spans spans.now) - count) result.index result.skip }
+    ensures byte { 0 < count → IsAtByte (C.spans spans.now) (size_of (C.spans spans.now) - count) result.index result.skip }
+{
+    let end = Cursor {
+        index: spans.count(),
+        skip: 0,
+    };
+    if count == 0 {
+        return end;
+    }
+    seek_back(spans, end, count)
+}
