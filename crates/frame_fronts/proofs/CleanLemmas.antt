@@ -5,7 +5,7 @@ use Rattle.std.specs.Int.{bit_at}
 use Rattle.std.proofs.lemmas.Bool.{cases_Bool, cases_lt, eqb-true}
 use Rattle.std.proofs.lemmas.List.{get_or-drop, get_or-take, length-drop, length-take}
 use Rattle.byte_kernels.specs.Marks.{Marks}
-use Rattle.byte_kernels.proofs.MarksLemmas.{bit_met, passed_group, set_within, unset_fails}
+use Rattle.byte_kernels.proofs.MarksLemmas.{bit_met, passed_group, unset_fails}
 use Rattle.frame_model.specs.declared.framing.Framing.TheVariants.{Line}
 use Rattle.frame_model.specs.Spelling.{is_line_feed, spelling}
 use Rattle.frame_model.proofs.SpellingLemmas.{spells, spelt}
@@ -46,9 +46,6 @@ marked_feed x from count marks least to group set high = record {
   high = high;
   feed = eqb-true (slice_index x (from + least)) 10 (bit_met group least set);
 }
-
-pub marked_within : (x : List ℕ) (from count marks least : ℕ) → Marks (λ place. eqb (slice_index x place) 10) from count marks → bit_at marks least ≡ 1 → least < count
-marked_within x from count marks least group set = set_within group least set
 
 -- bytes in two parts
 pub clear_more : (x : List ℕ) (from mid to : ℕ) → IsClear x from mid → IsClear x mid to → IsClear x from to

@@ -1,19 +1,27 @@
 -- One frame behind the other.
-use Rattle.std.proofs.Common.{◌≡◌, ◌<◌, ◌≤◌, ◌+◌, ℕ, List, [], ◌∷◌, ◌++◌, length, take, drop, refl, sym, ap, subst, ◌∙◌, arith, append_assoc, append-nil}
-use Rattle.std.specs.Prelude.{IsNone}
+use Rattle.std.proofs.Common.{◌≡◌, ◌<◌, ◌≤◌, ◌+◌, ◌-◌, ℕ, zero, suc, Option, Some, None, List, [], ◌∷◌, ◌++◌, length, take, drop, refl, sym, ap, subst, ◌∙◌, arith, append_assoc, append-nil, inl, inr}
+use Rattle.std.specs.Prelude.{IfNone, IsNone}
 use Rattle.std.specs.List.{AllByRecursion}
 use Rattle.std.proofs.lemmas.Grind.{flat_map-append}
-use Rattle.std.proofs.lemmas.List.{length-append, length-drop, drop-drop, get_or-drop}
+use Rattle.std.proofs.lemmas.Bool.{cases_lt}
+use Rattle.std.proofs.lemmas.List.{length-append, length-drop, drop-append-le, drop-drop, get_or-drop, take-append-drop, take-append-le, take_at}
+use Rattle.std.proofs.Math.Seq.{take-append-add}
 use Rattle.frame_model.specs.declared.framing.Framing.{Framing}
 use Rattle.frame_model.specs.Spelling.{obstacle, spelling, text}
 use Rattle.frame_model.specs.Cut.{IsBytes, Whole, front}
 use Rattle.frame_model.proofs.FrameLemmas.{spelling_some}
 use Rattle.frame_model.proofs.FrontLemmas.{front_shorter}
 use Rattle.frame_model.proofs.LongestLemmas.{front_again, front_found}
-use Rattle.frame_fronts.specs.Fronts.{IsFront, IsSpelt, IsWhole}
+use Rattle.frame_fronts.specs.Fronts.{HasNoFrame, IsFront, IsSpelt, IsWhole}
 
 bytes_drop : (n : ℕ) (x : List ℕ) → IsBytes x → IsBytes (drop n x)
 bytes_drop n x h i = rw get_or-drop (h (n + i))
+
+bytes_take : (n : ℕ) (x : List ℕ) → IsBytes x → IsBytes (take n x)
+bytes_take zero x h i = omega arith
+bytes_take (suc n) [] h i = h i
+bytes_take (suc n) (b ∷ x) h zero = h zero
+bytes_take (suc n) (b ∷ x) h (suc i) = bytes_take n x (λ k. h (suc k)) i
 
 all_more : (P : List ℕ → Type 0) (ps : List (List ℕ)) (p : List ℕ) → AllByRecursion P ps → P p → AllByRecursion P (ps ++ p ∷ [])
 all_more P [] p each here = (here, tt)
@@ -25,10 +33,6 @@ text_more f ps p = flat_map-append (spelling f) ps (p ∷ []) ∙ ap (λ (t : Li
 -- a frame has a byte
 pub some : (f : Framing) (max : ℕ) (x : List ℕ) (from n end : ℕ) → IsWhole f max x from n end → 0 < end
 some f max x from n end whole = omega (arith, front_shorter f max x (take n (drop from x)) (drop end x) whole.whole, length-drop end x, whole.within.1)
-
--- no frame
-pub no_frames : (input output : Framing) (max : ℕ) (x : List ℕ) → IsFront input output max x 0 0 []
-no_frames input output max x = record { counted = refl; size = refl; parts = refl; each = tt }
 
 -- one frame more
 pub one_more : (input output : Framing) (max : ℕ) (x : List ℕ) (len frames from n end : ℕ) (payloads : List (List ℕ)) → IsBytes x → IsFront input output max x len frames payloads
@@ -76,6 +80,48 @@ pub whole_narrower : (f : Framing) (small max : ℕ) (x p more : List ℕ) → I
 whole_narrower f small max x p more fits e few =
     let found = front_found f max x p more fits e in
     subst (λ (t : List ℕ). front f small t ≡ Whole p more) (sym found.parts) (front_again f small p more few found.possible)
+
+-- a frame that is whole is so whatever stands behind it
+whole_followed : (f : Framing) (max : ℕ) (y z : List ℕ) (from n end : ℕ) → IsBytes y → IsWhole f max y from n end → IsWhole f max (y ++ z) from n end
+whole_followed f max y z from n end fits is =
+    let p = take n (drop from y) in
+    let more = drop end y in
+    let found = front_found f max y p more fits is.whole in
+    let payload : take n (drop from (y ++ z)) ≡ p = ap (λ (t : List ℕ). take n t) (drop-append-le from y z (omega (arith, is.within.0, is.within.1))) ∙ take-append-le n (drop from y) z (omega (arith, is.within.0, is.within.1, length-drop from y)) in
+    let rest : drop end (y ++ z) ≡ more ++ z = drop-append-le end y z is.within.1 in
+    let parts : y ++ z ≡ spelling f p ++ (more ++ z) = ap (λ (t : List ℕ). t ++ z) found.parts ∙ append_assoc (spelling f p) more z in
+    record {
+      whole = rw (payload, rest) (subst (λ (t : List ℕ). front f max t ≡ Whole p (more ++ z)) (sym parts) (front_again f max p (more ++ z) found.within found.possible));
+      within = (is.within.0, omega (arith, is.within.1, length-append y z));
+    }
+
+pub whole_before : (f : Framing) (max : ℕ) (x : List ℕ) (k from n end : ℕ) → IsBytes x → IsWhole f max (take k x) from n end → IsWhole f max x from n end
+whole_before f max x k from n end fits is =
+    subst (λ (t : List ℕ). IsWhole f max t from n end) (take-append-drop k x) (whole_followed f max (take k x) (drop k x) from n end (bytes_take k x fits) is)
+
+-- and without some of what stands behind it
+whole_cut : (f : Framing) (max : ℕ) (y z p more : List ℕ) → IsBytes (y ++ z) → front f max (y ++ z) ≡ Whole p more → length z ≤ length more → front f max y ≡ Whole p (take (length more - length z) more)
+whole_cut f max y z p more fits e few =
+    let found = front_found f max (y ++ z) p more fits e in
+    let one = spelling f p in
+    let k = length more - length z in
+    let size : length y ≡ length one + k = omega (arith, few, ap length found.parts, length-append y z, length-append one more) in
+    let parts : y ≡ one ++ take k more = sym (take_at y z (length y) refl) ∙ ap (λ (n : ℕ). take n (y ++ z)) size ∙ ap (λ (t : List ℕ). take (length one + k) t) found.parts ∙ take-append-add one more k in
+    subst (λ (t : List ℕ). front f max t ≡ Whole p (take k more)) (sym parts) (front_again f max p (take k more) found.within found.possible)
+
+-- where no whole frame stands before the last `k` bytes, less stands behind one
+pub few_behind : (f : Framing) (max : ℕ) (x : List ℕ) (k : ℕ) → IsBytes x → k ≤ length x → HasNoFrame f max (take (length x - k) x) → (p more : List ℕ) → front f max x ≡ Whole p more → length more < k
+few_behind f max x k fits within none p more e =
+    let n = length x - k in
+    let parts = take-append-drop n x in
+    elim (cases_lt (length more) k) [
+      | inl less ↦ less
+      | inr enough ↦ absurd (none p _ (whole_cut f max (take n x) (drop n x) p more (subst IsBytes (sym parts) fits) (subst (λ (t : List ℕ). front f max t ≡ Whole p more) (sym parts) e) (omega (arith, enough, length-drop n x, within))))
+    ]
+
+pub none_then : {A : Type 0} (r : Option A) {P Q : Type 0} → IfNone r P → (P → Q) → IfNone r Q
+none_then None here then = then here
+none_then (Some x) here then = tt
 
 -- payloads that are small enough are so for a greater limit too
 each_wider : (input output : Framing) (small max : ℕ) → small ≤ max → (ps : List (List ℕ)) → AllByRecursion (λ p. (length p ≤ small) × IsNone (obstacle input p) × IsNone (obstacle output p)) ps

@@ -2,10 +2,15 @@
 
 ghost use Rattle.std.specs.Prelude.{◌≡◌, ◌≤◌, ◌+◌, ◌++◌, length, take, drop};
 
+use std::simd::prelude::*;
+
+/// How many bytes one lane has.
+const LANE: usize = 16;
+
 /// From how many bytes on a payload is copied by a call.
 const LONG: usize = 128;
 
-/// Copies the `len` bytes behind the first `from` bytes of a slice into a room behind its first `at` bytes, and up to 15 more.
+/// Copies the `len` bytes behind the first `from` bytes of a slice into a room behind its first `at` bytes, and up to 16 more.
 #[inline(always)]
 pub(crate) fn copy_payload(room: &mut [u8], at: usize, bytes: &[u8], from: usize, len: usize)
     requires room { at + len + 16 ≤ length room.old }
@@ -13,7 +18,9 @@ pub(crate) fn copy_payload(room: &mut [u8], at: usize, bytes: &[u8], from: usize
     ensures copied { take (at + len) room.new ≡ take at room.old ++ take len (drop from bytes.now) }
     ensures kept { length room.new ≡ length room.old }
 {
-    if len > LONG {
+    if len <= LANE {
+        copy_lane(room, at, bytes, from);
+    } else if len > LONG {
         copy_call(room, at, bytes, from, len);
     } else {
         copy_lanes(room, at, bytes, from, len);
@@ -50,7 +57,7 @@ fn copy_lane(room: &mut [u8], at: usize, bytes: &[u8], from: usize)
     requires bytes { from + 16 ≤ length bytes.now }
     ensures { room.new ≡ take at room.old ++ (take 16 (drop from bytes.now) ++ drop (at + 16) room.old) }
 {
-    room[at..at + 16].copy_from_slice(&bytes[from..from + 16]);
+    u8x16::from_slice(&bytes[from..]).copy_to_slice(&mut room[at..]);
 }
 
 /// Copies a whole slice into a room behind its first `at` bytes.

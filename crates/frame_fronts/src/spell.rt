@@ -1,8 +1,10 @@
 //! The whole frames at the front of a slice, spelt anew.
 
-ghost use Rattle.std.specs.Prelude.{◌≡◌, ◌↔◌, ◌≤◌, ◌+◌, ◌-◌, ◌++◌, length, take, drop, IsNone, IfSome, IfNone, true};
+ghost use Rattle.std.specs.Prelude.{◌≡◌, ◌↔◌, ◌≤◌, ◌<◌, ◌+◌, ◌-◌, ◌^◌, ◌++◌, ℕ, List, length, take, drop, IsNone, IfSome, IfNone, true};
+ghost use Rattle.frame_model.specs.Cut.{Whole, front};
+ghost use Rattle.frame_model.specs.Heads.{groups};
 ghost use Rattle.frame_model.specs.Spelling.{obstacle, spelling};
-ghost use Rattle.frame_fronts.specs.Fronts.{IsLeft, IsNext, IsSpelt};
+ghost use Rattle.frame_fronts.specs.Fronts.{IsLeft, IsNext, IsSpelt, IsWhole};
 
 use crate::clean::is_clean;
 use crate::copy::{copy_at, copy_payload};
@@ -66,11 +68,13 @@ fn spell(
     ensures kept { length room.new ≡ length room.old }
 {
     let most = room.len();
+    let mut rest = bytes;
     let mut len = 0;
     let mut end = at;
     let mut frames = 0;
-    while let Some(place) = next_place(input, output, max, behind(bytes, len), most - end) {
-        end = put(output, room, end, behind(bytes, len), place.from, place.len);
+    while let Some(place) = next_place(input, output, max, rest, most - end) {
+        end = put(output, room, end, rest, place.from, place.len);
+        rest = behind(rest, place.end);
         len += place.end;
         frames += 1;
     }
@@ -83,12 +87,9 @@ fn next_place(input: Framing, output: Framing, max: u64, bytes: &[u8], room: usi
     ensures next { IfSome result (λ place. IsNext input output max bytes.now room place.from place.len place.end) }
     ensures left { IfNone result (IsLeft input output max bytes.now room) }
 {
-    let Some(place) = whole_frame(input, max, bytes) else {
+    let Some(place) = frame_before_lane(input, max, bytes) else {
         return None;
     };
-    if bytes.len() < place.from + place.len + 16 {
-        return None;
-    }
     if room < place.len + 21 {
         return None;
     }
@@ -96,6 +97,28 @@ fn next_place(input: Framing, output: Framing, max: u64, bytes: &[u8], room: usi
         return None;
     }
     Some(place)
+}
+
+/// The frame that stands whole at the front, where a lane stands behind it.
+#[inline(always)]
+fn frame_before_lane(input: Framing, max: u64, bytes: &[u8]) -> Option<Place>
+    ensures whole { IfSome result (λ place. IsWhole input max bytes.now place.from place.len place.end) }
+    ensures lane { IfSome result (λ place. place.end + 16 ≤ length bytes.now) }
+    ensures none { IfNone result ((p more : List ℕ) → front input max bytes.now ≡ Whole p more → length more < 16) }
+{
+    if bytes.len() < 16 {
+        return None;
+    }
+    whole_frame(input, max, before_last_lane(bytes))
+}
+
+/// All bytes but the last lane.
+#[inline(always)]
+fn before_last_lane(bytes: &[u8]) -> &[u8]
+    requires { 16 ≤ length bytes.now }
+    ensures { result.now ≡ take (length bytes.now - 16) bytes.now }
+{
+    &bytes[..bytes.len() - 16]
 }
 
 /// Whether a payload has a frame.
@@ -135,10 +158,9 @@ fn put(output: Framing, room: &mut [u8], at: usize, bytes: &[u8], from: usize, l
             at + 2 + len
         }
         Framing::VLen => {
-            let head = groups_of(len as u32);
-            copy_at(room, at, &head.bytes[..head.count]);
-            copy_payload(room, at + head.count, bytes, from, len);
-            at + head.count + len
+            let head = put_groups(room, at, len as u32);
+            copy_payload(room, at + head, bytes, from, len);
+            at + head + len
         }
         Framing::Line => {
             copy_payload(room, at, bytes, from, len);
@@ -146,4 +168,24 @@ fn put(output: Framing, room: &mut [u8], at: usize, bytes: &[u8], from: usize, l
             at + len + 1
         }
     }
+}
+
+/// Puts a length in groups of 7 bits into a room behind its first `at` bytes, and answers how many bytes they are. Up to 3
+/// more are written: four at once take less time than as many as there are.
+#[inline(always)]
+fn put_groups(room: &mut [u8], at: usize, len: u32) -> usize
+    requires room { at + 4 ≤ length room.old }
+    requires few { len < 2 ^ 28 }
+    ensures size { result ≡ length (groups 4 len) }
+    ensures few { result ≤ 4 }
+    ensures put { take (at + result) room.new ≡ take at room.old ++ groups 4 len }
+    ensures kept { length room.new ≡ length room.old }
+{
+    if len < 128 {
+        room[at] = len as u8;
+        return 1;
+    }
+    let head = groups_of(len);
+    copy_at(room, at, &head.bytes);
+    head.count
 }
