@@ -55,8 +55,8 @@ impl Block {
     {
         let land = Land::<u64, Global>::new(&alloc, words_of(size))?;
         let (home, mut bytes) = Home::lay(land, size);
-        for at in 0..size {
-            bytes.insert_reserved(at, 0);
+        for _ in 0..size {
+            bytes.push_reserved(0);
         }
         Ok(Block {
             home,
