@@ -126,7 +126,7 @@ const REFUSED: [&str; 8] = [
     "\
 Copy|line|len4
 copy \n\
-serve
+served|L|T|line|len4|2
 ",
     "\
 drill|line|len4
@@ -140,6 +140,8 @@ batch|0|line|len4|a
 batch|17|line|len4|a
 batch|02|line|len4|a
 batch|line|len4|a
+serve
+serve||T|line|len4|2
 ",
     "\
 drill|1|1000001|line|len4
@@ -149,6 +151,8 @@ copy|len4
 copy|len4|foo
 batch|2
 batch|2|max=9|line|len4|a
+serve|L
+serve|L||line|len4|2
 ",
     "\
 drill|1|0
@@ -168,6 +172,9 @@ copy|line|len4|resume=70000
 copy|line|line|resume=9|pause=8
 batch|2|line
 batch|2|line|a
+serve|L|T
+serve|L|T|foo
+serve|L|T|2|line|len4
 ",
     "\
 pump|line|len4|max=1|max=1
@@ -183,6 +190,8 @@ batch|2|line|len4|seg=63|a
 batch|2|line|len4|a.out
 batch|2|line|line|resume=70000|a
 batch|2|line|line|resume=0|a
+serve|L|T|line
+serve|L|T|line|2|len4
 ",
     "\
 drill|1|0|line|len4|x
@@ -194,9 +203,17 @@ batch|2|line|len4|a|a
 batch|2|line|len4|a|.out
 batch|2|line|line|resume=70000
 batch|2|line|line|pause=8|resume=9|a
+serve|L|T|line|len4
+serve|L|T|line|len4|0
+serve|L|T|line|len4|02
+serve|L|T|line|len4|1000001
+serve|L|T|line|len4|max=9|2
 ",
     "\
 drill|1|0|line|len4|pause=8|resume=9
+serve|L|T|line|len4|2|x
+serve|L|T|line|len4|2|resume=70000
+serve|L|T|line|len4|2|resume=9|pause=8
 batch|2|line|len4|a|max=9|max=9
 batch|2|line|line|resume=70000|a|a
 ",

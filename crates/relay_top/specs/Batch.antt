@@ -13,6 +13,7 @@ use Rattle.relay_model.specs.Devices.{AreFresh, Devices, HandsBack, IsFreshInlet
 use Rattle.relay_model.specs.Lines.{door_line, memory_line}
 use Rattle.relay_model.specs.Run.{RelaysAll, TranslatesAll}
 use Rattle.relay_model.specs.World.{Tells, World}
+use Rattle.relay_top.specs.Opened.{HasRelayedWhole, IsLawful, RelaysOpened, TranslatesOpened}
 
 -- The bytes that doors tell of a name.
 abbrev pub bytes_of : List ℕ → Told → Option (List ℕ)
@@ -25,10 +26,6 @@ IsFreshInletOf told name inlet = IsFreshInlet told (bytes_of name) inlet
 -- So are both of its devices, of which the sink is its own.
 abbrev pub AreFreshOf : Option Told → List ℕ → Devices → Type 0
 AreFreshOf told name devices = AreFresh told (bytes_of name) name devices
-
--- The sink that a relay has written to is that of a name, where the doors tell it.
-abbrev pub HasOwnSink : Option Told → List ℕ → Relayed → Type 0
-HasOwnSink told name relayed = IfSome told (λ _. relayed.ended.outlet.name ≡ Some name)
 
 -- A name was relayed.
 abbrev pub IsRelayedOf : Option Told → Job → List ℕ → Relayed → Type 0
@@ -80,22 +77,9 @@ pub data Batches (names : List (List ℕ)) (first : ℕ) (job : Job) (status : S
 
 -- ---- what follows
 
--- DoorFault, ReadFault and WriteFault come only where an opening was refused or a device failed; and an opening that is refused shows as
--- DoorFault, a sink that fails as WriteFault.
-pub record HasBatchCause (status : Status) (before after : DoorsState) (sink_before sink_after : SinkState) : Type 0 where
-  pub few : status ≢ exit.Usage
-  pub refused : status ≡ exit.DoorFault → HasRisen before.refusals after.refusals
-  pub shows_refused : before.refusals < after.refusals → status ≡ exit.DoorFault
-  pub read_fault : status ≡ exit.ReadFault → HasRisen before.faults after.faults
-  pub write_fault : status ≡ exit.WriteFault → HasRisen sink_before.faults sink_after.faults ⊎ HasRisen before.faults after.faults
-  pub sink_failed : sink_before.faults < sink_after.faults → status ≡ exit.WriteFault
-
--- From fresh devices, where neither failed and there was memory for the relay, the sink of a name gained the translation of all that its
--- source held.
-pub record TranslatesName (told : Option Told) (job : Job) (name : List ℕ) (relayed : Relayed) : Type 0 where
-  pub fresh : AreFreshOf told name relayed.opened
-  pub translated : IfOk relayed.answer (λ report. TranslatesAll job relayed.opened.inlet relayed.ended.inlet relayed.opened.outlet relayed.ended.outlet)
-  pub own : HasOwnSink told name relayed
+-- The sink of a name gained the translation of all that its source held, where neither failed.
+abbrev pub TranslatesName : Option Told → Job → List ℕ → Relayed → Type 0
+TranslatesName told job name relayed = TranslatesOpened told job (bytes_of name) name relayed
 
 -- So it is with each name, and then its devices came back, unless an opening was refused or there was no memory.
 abbrev pub TranslatesNames : List (List ℕ) → Job → Status → DoorsState → DoorsState → Type 0
@@ -103,28 +87,16 @@ TranslatesNames names job status before after =
     status ≢ exit.DoorFault → status ≢ exit.OutOfMemory → (relayed : List Relayed) × AllZip (TranslatesName before.told job) names relayed × HandsBack (returned relayed) before after
 
 -- All that the source of a name held was lawful, and all of it was relayed.
-pub record RelaysName (told : Option Told) (job : Job) (name : List ℕ) (relayed : Relayed) : Type 0 where
-  pub fresh : AreFreshOf told name relayed.opened
-  pub whole : RelaysAll job relayed.opened.inlet relayed.ended.inlet relayed.opened.outlet relayed.ended.outlet
-  pub own : HasOwnSink told name relayed
+abbrev pub RelaysName : Option Told → Job → List ℕ → Relayed → Type 0
+RelaysName told job name relayed = RelaysOpened told job (bytes_of name) name relayed
 
 -- So it is with each name.
 abbrev pub RelaysEach : List (List ℕ) → Job → DoorsState → DoorsState → Type 0
 RelaysEach names job before after = (relayed : List Relayed) × AllZip (RelaysName before.told job) names relayed × HandsBack (returned relayed) before after
 
--- The bytes of a name are lawful to their end, and no more than a relay takes.
-abbrev pub IsLawful : Job → List Named → List ℕ → Type 0
-IsLawful job named name = IfSome (content_of name named) (λ input. (length input ≤ job.limit) × ((translation job input true).verdict ≡ End))
-
--- The sink of a name has the translation of its bytes.
-abbrev pub IsTranslated : Job → List Named → List ℕ → Relayed → Type 0
-IsTranslated job named name relayed = (input : List ℕ) × (content_of name named ≡ Some input) × (relayed.ended.outlet.written ≡ Some (translation job input true).text)
-
--- It was relayed, with a clean status.
-pub record IsRelayedWhole (told : Told) (job : Job) (name : List ℕ) (relayed : Relayed) : Type 0 where
-  pub alone : IsRelayedOf (Some told) job name relayed
-  pub clean : status_of_answer relayed.answer ≡ exit.Clean
-  pub translated : IsTranslated job told.named name relayed
+-- A name was relayed, all that it has.
+abbrev pub IsRelayedWhole : Told → Job → List ℕ → Relayed → Type 0
+IsRelayedWhole told job name relayed = IsRelayedOf (Some told) job name relayed × HasRelayedWhole job (content_of name told.named) relayed
 
 -- Each name was relayed whole, all devices came back, and the lines say so.
 pub record RelaysNames (names : List (List ℕ)) (job : Job) (told : Told) (before after : DoorsState) (sink_before sink_after : SinkState) : Type 0 where
@@ -137,5 +109,5 @@ pub record RelaysNames (names : List (List ℕ)) (job : Job) (told : Told) (befo
 abbrev pub CompletesBatch : List (List ℕ) → Job → Status → DoorsState → DoorsState → SinkState → SinkState → Type 0
 CompletesBatch names job status before after sink_before sink_after =
     HasNotRisen before.refusals after.refusals → HasNotRisen before.faults after.faults → HasNotRisen sink_before.faults sink_after.faults →
-    IfSome before.told (λ told. All (IsLawful job told.named) names →
+    IfSome before.told (λ told. All (λ name. IsLawful job (content_of name told.named)) names →
     ((status ≡ exit.Clean) × RelaysNames names job told before after sink_before sink_after) ⊎ (status ≡ exit.OutOfMemory))

@@ -1,5 +1,5 @@
 -- What is done, by the command that words ask for. A new command adds an arm to each definition that goes by `Command`.
-use Rattle.std.specs.Prelude.{ℕ, ⊤, ◌≡◌, ◌≢◌, drop, List, Option, Some, None, Result, Ok, Err, IfOk, IfSome}
+use Rattle.std.specs.Prelude.{ℕ, ⊤, ◌≡◌, ◌≢◌, drop, List, Result, Ok, Err, IfOk, IfSome}
 use Rattle.frame_grammar.specs.declared.job.Job.{Job}
 use Rattle.relay_model.specs.declared.status.Status.{Status}
 use Rattle.relay_model.specs.declared.status.Status.TheVariants as exit
@@ -7,13 +7,15 @@ use Rattle.relay_model.specs.Answers.{Relays}
 use Rattle.relay_model.specs.Lines.{usage_line}
 use Rattle.relay_model.specs.Run.{HasCause, RelaysAll, StopsInTime, TranslatesAll}
 use Rattle.relay_model.specs.World.{TellsOnly, World}
-use Rattle.relay_top.specs.Batch.{Batches, HasBatchCause, RelaysEach, TranslatesNames}
+use Rattle.relay_top.specs.Batch.{Batches, RelaysEach, TranslatesNames}
 use Rattle.relay_top.specs.Drill.{Drills, HasDrillCause, IsSummedUp}
-use Rattle.relay_words.specs.Words.{batch_of, command_of, drill_of, relay_of}
+use Rattle.relay_top.specs.Opened.{HasOpeningCause}
+use Rattle.relay_top.specs.Serving.{RelaysCount, ServesAt, TranslatesEach, word_at}
+use Rattle.relay_words.specs.Words.{command_of, drill_of, relay_of}
 use Rattle.relay_words.specs.declared.command.Command.{Command}
 use Rattle.relay_words.specs.declared.command.Command.TheVariants.{Local, Threaded}
 use Rattle.relay_words.specs.declared.command.LocalCommand.TheVariants.{Copy}
-use Rattle.relay_words.specs.declared.command.ThreadedCommand.TheVariants.{Pump, Drill, Batch}
+use Rattle.relay_words.specs.declared.command.ThreadedCommand.TheVariants.{Pump, Drill, Batch, Serve}
 
 -- ---- what a command does
 
@@ -28,6 +30,7 @@ Does words (Local (Copy job)) status was is = Copies job status was is
 Does words (Threaded (Pump job)) status was is = Relays job status was is
 Does words (Threaded (Drill seed count job)) status was is = Drills seed count job status was is
 Does words (Threaded (Batch workers job names_from)) status was is = Batches (drop names_from words) names_from job status was is
+Does words (Threaded (Serve listen target count job)) status was is = ServesAt (word_at target words) count job status was is
 
 -- The word of this index can't be read. Nothing has changed but that this was told.
 pub record RefusesWord (word : ℕ) (status : Status) (was is : World) : Type 0 where
@@ -50,6 +53,8 @@ TranslatesAs words (Local (Copy job)) status was is = status ≢ exit.OutOfMemor
 TranslatesAs words (Threaded (Pump job)) status was is = status ≢ exit.OutOfMemory → TranslatesAll job was.source is.source was.sink is.sink
 TranslatesAs words (Threaded (Drill seed count job)) status was is = ⊤
 TranslatesAs words (Threaded (Batch workers job names_from)) status was is = TranslatesNames (drop names_from words) job status was.doors is.doors
+TranslatesAs words (Threaded (Serve listen target count job)) status was is =
+    TranslatesEach (word_at target words) count job status was.doors is.doors was.sink is.sink
 
 abbrev pub Translates : List (List ℕ) → Status → World → World → Type 0
 Translates words status was is = IfOk (command_of words) (λ command. TranslatesAs words command status was is)
@@ -60,6 +65,7 @@ IsWholeAs words (Local (Copy job)) was is = RelaysAll job was.source is.source w
 IsWholeAs words (Threaded (Pump job)) was is = RelaysAll job was.source is.source was.sink is.sink
 IsWholeAs words (Threaded (Drill seed count job)) was is = IsSummedUp seed count job was.sink is.sink
 IsWholeAs words (Threaded (Batch workers job names_from)) was is = RelaysEach (drop names_from words) job was.doors is.doors
+IsWholeAs words (Threaded (Serve listen target count job)) was is = RelaysCount (word_at target words) count job was.doors is.doors
 
 abbrev pub IsWhole : List (List ℕ) → World → World → Type 0
 IsWhole words was is = IfOk (command_of words) (λ command. IsWholeAs words command was is)
@@ -69,7 +75,8 @@ abbrev pub IsCausedAs : Command → Status → World → World → Type 0
 IsCausedAs (Local (Copy job)) status was is = status ≢ exit.OutOfMemory → HasCause status was.source is.source was.sink is.sink
 IsCausedAs (Threaded (Pump job)) status was is = status ≢ exit.OutOfMemory → HasCause status was.source is.source was.sink is.sink
 IsCausedAs (Threaded (Drill seed count job)) status was is = HasDrillCause seed count job status was.sink is.sink
-IsCausedAs (Threaded (Batch workers job names_from)) status was is = HasBatchCause status was.doors is.doors was.sink is.sink
+IsCausedAs (Threaded (Batch workers job names_from)) status was is = HasOpeningCause status was.doors is.doors was.sink is.sink
+IsCausedAs (Threaded (Serve listen target count job)) status was is = HasOpeningCause status was.doors is.doors was.sink is.sink
 
 abbrev pub IsCaused : List (List ℕ) → Status → World → World → Type 0
 IsCaused words status was is = IfOk (command_of words) (λ command. IsCausedAs command status was is)
@@ -89,10 +96,8 @@ IfCopy (Threaded command) P = ⊤
 abbrev pub IfDrill : Command → (ℕ → ℕ → Job → Type 0) → Type 0
 IfDrill command P = IfSome (drill_of command) (λ drill. P drill.0 drill.1 drill.2)
 
-abbrev pub Unless : {A : Type 0} → Option A → Type 0 → Type 0
-Unless None P = P
-Unless (Some it) P = ⊤
-
--- This holds, where the command isn't a batch.
-abbrev pub UnlessBatch : Command → Type 0 → Type 0
-UnlessBatch command P = Unless (batch_of command) P
+-- This holds, where the command opens no devices.
+abbrev pub UnlessOpens : Command → Type 0 → Type 0
+UnlessOpens (Threaded (Batch workers job names_from)) P = ⊤
+UnlessOpens (Threaded (Serve listen target count job)) P = ⊤
+UnlessOpens command P = P

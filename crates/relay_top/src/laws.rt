@@ -5,10 +5,11 @@ ghost use Rattle.relay_model.specs.Answers.{IsRelayed};
 ghost use Rattle.relay_model.specs.Lines.{IsWritten, memory_line, usage_line};
 ghost use Rattle.relay_model.specs.Run.{IsComplete, StopsInTime};
 ghost use Rattle.relay_model.specs.World.{World};
-ghost use Rattle.relay_words.specs.Words.{IfBatch, command_of};
+ghost use Rattle.relay_words.specs.Words.{IfBatch, IfServe, command_of};
 ghost use Rattle.relay_top.specs.Batch.{Batches, CompletesBatch};
-ghost use Rattle.relay_top.specs.Commands.{IfCopy, IfDrill, IfRelay, IsCaused, IsWhole, Runs, Translates, UnlessBatch};
+ghost use Rattle.relay_top.specs.Commands.{IfCopy, IfDrill, IfRelay, IsCaused, IsWhole, Runs, Translates, UnlessOpens};
 ghost use Rattle.relay_top.specs.Drill.{Drills, HasGained, SumsUp};
+ghost use Rattle.relay_top.specs.Serving.{CompletesServing, ServesAt, word_at};
 
 use relay_model::{
     Status, causes_of_statuses, complete_where_lawful, translates_all, whole_on_status_0,
@@ -26,8 +27,8 @@ pub fn what_runs_come_to()
 }
 
 /// The status of words that are no command comes for these alone, and the word is told that can't be read. Without a command, and
-/// without memory, nothing is read or written. A batch may have no memory for one of its names. All but a batch leave the doors
-/// as they are.
+/// without memory, nothing is read or written. A batch may have no memory for one of its names, and a server for one of its connections. All but a batch and a server leave
+/// the doors as they are.
 pub fn what_is_untouched()
     ensures usage { (words : List (List ℕ)) (status : Status) (was is : World) → Runs words status was is → (status ≡ Status.Usage) ↔ IsErr (command_of words) }
     ensures usage_told { (words : List (List ℕ)) (status : Status) (was is : World) → Runs words status was is → IfErr (command_of words) (λ word. IsWritten (usage_line word) was.faults is.faults) }
@@ -35,12 +36,12 @@ pub fn what_is_untouched()
         (status ≡ Status.Usage) ⊎ (status ≡ Status.OutOfMemory) → is.source ≡ was.source }
     ensures sink_untouched { (words : List (List ℕ)) (status : Status) (was is : World) → Runs words status was is → status ≡ Status.Usage → is.sink ≡ was.sink }
     ensures sink_without_memory { (words : List (List ℕ)) (status : Status) (was is : World) → Runs words status was is → status ≡ Status.OutOfMemory →
-        IfOk (command_of words) (λ command. UnlessBatch command (is.sink ≡ was.sink)) }
+        IfOk (command_of words) (λ command. UnlessOpens command (is.sink ≡ was.sink)) }
     ensures memory_told { (words : List (List ℕ)) (status : Status) (was is : World) → Runs words status was is → status ≡ Status.OutOfMemory →
-        IfOk (command_of words) (λ command. UnlessBatch command (IsWritten memory_line was.faults is.faults)) }
+        IfOk (command_of words) (λ command. UnlessOpens command (IsWritten memory_line was.faults is.faults)) }
     ensures no_doors { (words : List (List ℕ)) (status : Status) (was is : World) → Runs words status was is → status ≡ Status.Usage → is.doors ≡ was.doors }
     ensures doors_untouched { (words : List (List ℕ)) (status : Status) (was is : World) → Runs words status was is →
-        IfOk (command_of words) (λ command. UnlessBatch command (is.doors ≡ was.doors)) }
+        IfOk (command_of words) (λ command. UnlessOpens command (is.doors ≡ was.doors)) }
 {
     causes_of_statuses();
 }
@@ -84,6 +85,20 @@ pub fn what_batches_do()
     ensures batch_complete { (words : List (List ℕ)) (status : Status) (was is : World) → Runs words status was is →
         IfOk (command_of words) (λ command. IfBatch command (λ workers job names_from.
         CompletesBatch (drop names_from words) job status was.doors is.doors was.sink is.sink)) }
+{
+    complete_where_lawful();
+}
+
+/// A server leaves the source as it is. It accepts connections, relays each to a new one and gives both back. Where nothing is
+/// refused, no device fails and all that its connections hold is lawful, all of it is relayed, or there is no memory.
+pub fn what_servers_do()
+    ensures serve_reads_nothing { (words : List (List ℕ)) (status : Status) (was is : World) → Runs words status was is →
+        IfOk (command_of words) (λ command. IfServe command (λ listen target count job. is.source ≡ was.source)) }
+    ensures served { (words : List (List ℕ)) (status : Status) (was is : World) → Runs words status was is →
+        IfOk (command_of words) (λ command. IfServe command (λ listen target count job. ServesAt (word_at target words) count job status was is)) }
+    ensures serve_complete { (words : List (List ℕ)) (status : Status) (was is : World) → Runs words status was is →
+        IfOk (command_of words) (λ command. IfServe command (λ listen target count job.
+        CompletesServing (word_at target words) count job status was.doors is.doors was.sink is.sink)) }
 {
     complete_where_lawful();
 }

@@ -8,11 +8,13 @@ mod laws;
 mod local;
 mod name_lines;
 mod pumping;
+mod serving;
 mod telling;
 mod threaded;
 
 pub use laws::{
     what_batches_do, what_drills_do, what_is_untouched, what_relays_do, what_runs_come_to,
+    what_servers_do,
 };
 pub use local::relay_local;
 pub use relay_model::Status;

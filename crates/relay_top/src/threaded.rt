@@ -6,7 +6,7 @@ ghost use Rattle.frame_grammar.specs.Job.{IsInRange};
 ghost use Rattle.relay_model.specs.Answers.{Relays};
 ghost use Rattle.relay_model.specs.World.{world};
 ghost use Rattle.relay_words.specs.Names.{AreNames};
-ghost use Rattle.relay_words.specs.Words.{IfBatch, frames_made, job_of, texts};
+ghost use Rattle.relay_words.specs.Words.{IfBatch, IfServe, frames_made, job_of, texts};
 ghost use Rattle.relay_words.specs.declared.command.Command.TheVariants.{Threaded};
 ghost use Rattle.relay_top.specs.Commands.{Does, IsCaused, IsWhole, Runs, Translates};
 
@@ -15,6 +15,7 @@ use crate::drill::drill;
 use crate::laws::what_runs_come_to;
 use crate::local::run_local;
 use crate::pumping::pump_and_settle;
+use crate::serving::serve;
 use crate::telling::tell_usage;
 use edge_core::{Doors, Sink, Source};
 use frame_grammar::Job;
@@ -52,6 +53,14 @@ use std::thread::Threads;
 /// with whose name the line on `faults` begins. `DoorFault` is that an opening was refused: what was open is given back, and
 /// nothing is read or written. With `OutOfMemory` there was no memory for one name, which ends no other, or for the command:
 /// then nothing is read or written, and where all was open already the devices are dropped and not given back.
+///
+/// `serve` reads nothing of `source`. It listens by `doors` and relays so many connections, one after the other, each to a new one
+/// to its target, on two threads; once both devices of one were given back its line comes to `sink`: its number from 1, the number of
+/// its status, and how many of its frames were written whole. The status of one ends no other, and neither does want of memory for its
+/// relay. The command's status is `WriteFault` where a write or the flush of these lines failed, which ends it, and else that of the
+/// first connection whose status isn't `Clean`, with whose number the line on `faults` begins. `DoorFault` is that listening,
+/// accepting or connecting was refused, and `OutOfMemory` of the whole command that there was no memory for that: the connections
+/// before were relayed and have their lines, and of one that has no target nothing was read.
 pub fn relay_main<R: Wait + Threads + Sync, S: Source + Send, K: Sink + Send, E: Sink, D: Doors>(
     rt: &R,
     alloc: Global,
@@ -125,6 +134,7 @@ fn run_threaded<R: Wait + Threads + Sync, S: Source + Send, K: Sink + Send, E: S
     requires workers { IfBatch (Threaded command) (λ workers job names_from. (1 ≤ workers) × (workers ≤ 16)) }
     requires names_from { IfBatch (Threaded command) (λ workers job names_from. names_from < length words.now) }
     requires names { IfBatch (Threaded command) (λ workers job names_from. AreNames (drop names_from (texts words.now))) }
+    requires addresses { IfServe (Threaded command) (λ listen target count job. (listen ≡ 1) × (target ≡ 2) × (2 < length words.now)) }
     ensures { Does (texts words.now) (Threaded command) result
         (world (S.state source.old) (D.state doors.old) (K.state sink.old) (E.state faults.old))
         (world (S.state source.new) (D.state doors.new) (K.state sink.new) (E.state faults.new)) }
@@ -142,6 +152,17 @@ fn run_threaded<R: Wait + Threads + Sync, S: Source + Send, K: Sink + Send, E: S
             let names = &words[names_from..];
             batch(
                 rt, alloc, workers, &job, names_from, names, sink, faults, doors,
+            )
+        }
+        ThreadedCommand::Serve {
+            listen,
+            target,
+            count,
+            job,
+        } => {
+            let (listen, target) = (words[listen].as_str(), words[target].as_str());
+            serve(
+                rt, alloc, listen, target, count, &job, sink, faults, doors,
             )
         }
     }

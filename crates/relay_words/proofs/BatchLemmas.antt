@@ -16,9 +16,11 @@ use Rattle.relay_words.specs.declared.command.Kind.TheVariants as kinds
 use Rattle.relay_words.specs.Keys.{is_keyed}
 use Rattle.relay_words.specs.Names.{AreNames, misnamed}
 use Rattle.relay_words.specs.Numbers.{number_of, number_within}
-use Rattle.relay_words.specs.Words.{IfBatch, batch_of, batch_behind, batch_in, batch_with, command_of, command_with, drill_from, drill_in, drill_with, frames_made, job_behind, job_in, job_of, kind_of, misplaced, names_part, relay_part, texts}
+use Rattle.relay_words.specs.Words.{IfBatch, batch_of, batch_behind, batch_in, batch_with, command_of, frames_made, job_behind, job_of, misplaced, names_part, relay_part, serve_in, texts}
+use Rattle.relay_words.proofs.KindLemmas.{Others, of_words}
 use Rattle.relay_words.proofs.NamesLemmas.{are_names}
 use Rattle.relay_words.proofs.RangeLemmas.{number_range, texts_len, words_limit, words_range}
+use Rattle.relay_words.proofs.ServeLemmas.{served}
 
 -- What was read of the words behind `batch`.
 pub record IsBatch (words : List (List ℕ)) (workers : ℕ) (job : Job) (names_from : ℕ) : Type 0 where
@@ -70,7 +72,7 @@ with_relay : (workers : ℕ) (relay names : List (List ℕ)) (command : Command)
 with_relay workers relay names command None e = with_names workers relay names command (misnamed [] names) refl e
 with_relay workers relay names command (Some at) e = absurd cc
 
-record Batched (words : List (List ℕ)) (command : Command) : Type 0 where
+pub record Batched (words : List (List ℕ)) (command : Command) : Type 0 where
   pub workers : ℕ
   pub job : Job
   pub names_from : ℕ
@@ -102,7 +104,7 @@ with_workers word words command (Some workers) q e =
     let range = number_range 1 16 (number_of word) workers q in
     of_read workers word words command range.0 range.1 (with_relay workers (relay_part words) (names_part words) command (misplaced [] (relay_part words)) e)
 
-batched : (words : List (List ℕ)) (command : Command) → batch_in words ≡ Ok command → Batched words command
+pub batched : (words : List (List ℕ)) (command : Command) → batch_in words ≡ Ok command → Batched words command
 batched [] command e = absurd cc
 batched (word ∷ words) command e = with_workers word words command (number_within 1 16 word) refl e
 
@@ -122,58 +124,27 @@ makes_none words (Err at) e = tt
 
 -- ---- of all words of a command
 
-abbrev Follows : List (List ℕ) → (ℕ → Job → ℕ → Type 0) → Type 0
-Follows words P = (workers : ℕ) (job : Job) (names_from : ℕ) → IsBatch words workers job names_from → P workers job names_from
-
-no_batch : (P : ℕ → Job → ℕ → Type 0) (command other : Command) → command ≡ other → IfBatch other P → IfBatch command P
-no_batch P command other e h = subst (λ (c : Command). IfBatch c P) (sym e) h
-
-no_copy : (P : ℕ → Job → ℕ → Type 0) (r : Result Job ℕ) (command : Command) → ◌≡◌ {A = Result Command ℕ} (elim r [ Ok job ↦ Ok (Local (Copy job)) | Err at ↦ Err at ]) (Ok command) → IfBatch command P
-no_copy P (Ok job) command e = no_batch P command (Local (Copy job)) (sym (ok_is _ _ e)) tt
-no_copy P (Err at) command e = absurd cc
-
-no_pump : (P : ℕ → Job → ℕ → Type 0) (r : Result Job ℕ) (command : Command) → ◌≡◌ {A = Result Command ℕ} (elim r [ Ok job ↦ Ok (Threaded (Pump job)) | Err at ↦ Err at ]) (Ok command) → IfBatch command P
-no_pump P (Ok job) command e = no_batch P command (Threaded (Pump job)) (sym (ok_is _ _ e)) tt
-no_pump P (Err at) command e = absurd cc
-
-no_drill_with : (P : ℕ → Job → ℕ → Type 0) (seed count : ℕ) (r : Result Job ℕ) (command : Command) → drill_with seed count r ≡ Ok command → IfBatch command P
-no_drill_with P seed count (Ok job) command e = no_batch P command (Threaded (Drill seed count job)) (sym (ok_is _ _ e)) tt
-no_drill_with P seed count (Err at) command e = absurd cc
-
-no_drill_from : (P : ℕ → Job → ℕ → Type 0) (seed : ℕ) (words : List (List ℕ)) (command : Command) → drill_from seed words ≡ Ok command → IfBatch command P
-no_drill_from P seed [] command e = absurd cc
-no_drill_from P seed (word ∷ words) command e = by (number_within 0 1000000 word) e
-  where
-    by : (o : Option ℕ) → ◌≡◌ {A = Result Command ℕ} (elim o [ None ↦ Err 2 | Some count ↦ drill_with seed count (job_in words) ]) (Ok command) → IfBatch command P
-    by None e = absurd cc
-    by (Some count) e = no_drill_with P seed count (job_in words) command e
-
-no_drill : (P : ℕ → Job → ℕ → Type 0) (words : List (List ℕ)) (command : Command) → drill_in words ≡ Ok command → IfBatch command P
-no_drill P [] command e = absurd cc
-no_drill P (word ∷ words) command e = by (number_within 0 4294967295 word) e
-  where
-    by : (o : Option ℕ) → ◌≡◌ {A = Result Command ℕ} (elim o [ None ↦ Err 1 | Some seed ↦ drill_from seed words ]) (Ok command) → IfBatch command P
-    by None e = absurd cc
-    by (Some seed) e = no_drill_from P seed words command e
-
-of_kind : (P : ℕ → Job → ℕ → Type 0) (kind : Kind) (words : List (List ℕ)) (command : Command) → Follows words P → command_with kind words ≡ Ok command → IfBatch command P
-of_kind P kinds.Copy words command f e = no_copy P (job_in words) command e
-of_kind P kinds.Pump words command f e = no_pump P (job_in words) command e
-of_kind P kinds.Drill words command f e = no_drill P words command e
-of_kind P kinds.Batch words command f e =
-    let b = batched words command e in
-    no_batch P command (Threaded (Batch b.workers b.job b.names_from)) b.is (f b.workers b.job b.names_from b.holds)
-
 abbrev pub IsWhole : List (List ℕ) → ℕ → ℕ → Type 0
 IsWhole words workers names_from = (1 ≤ workers) × (workers ≤ 16) × (names_from < length words) × AreNames (drop names_from words)
 
+no_batch : (P : ℕ → Job → ℕ → Type 0) → Others (λ command. IfBatch command P)
+no_batch P = record { copy = λ job. tt; pump = λ job. tt; drill = λ seed count job. tt }
+
 whole : (words : List (List ℕ)) (command : Command) → command_of words ≡ Ok command → IfBatch command (λ workers job names_from. IsWhole words workers names_from)
 whole [] command e = absurd cc
-whole (word ∷ words) command e = by (kind_of word) e
+whole (word ∷ words) command e = of_words (λ command. IfBatch command P) (no_batch P) word words command is_batch is_serve e
   where
-    by : (o : Option Kind) → ◌≡◌ {A = Result Command ℕ} (elim o [ None ↦ Err 0 | Some kind ↦ command_with kind words ]) (Ok command) → IfBatch command (λ workers job names_from. IsWhole (word ∷ words) workers names_from)
-    by None e = absurd cc
-    by (Some kind) e = of_kind (λ workers job names_from. IsWhole (word ∷ words) workers names_from) kind words command (λ workers job names_from b. (b.least, b.most, omega (arith, b.within), b.names word)) e
+    P : ℕ → Job → ℕ → Type 0
+    P = λ workers job names_from. IsWhole (word ∷ words) workers names_from
+
+    is_batch : batch_in words ≡ Ok command → IfBatch command (λ workers job names_from. IsWhole (word ∷ words) workers names_from)
+    is_batch q =
+        let b = batched words command q in
+        subst (λ (c : Command). IfBatch c (λ workers job names_from. IsWhole (word ∷ words) workers names_from)) (sym b.is)
+        (b.holds.least, b.holds.most, omega (arith, b.holds.within), b.holds.names word)
+
+    is_serve : serve_in words ≡ Ok command → IfBatch command (λ workers job names_from. IsWhole (word ∷ words) workers names_from)
+    is_serve q = let s = served words command q in subst (λ (c : Command). IfBatch c (λ workers job names_from. IsWhole (word ∷ words) workers names_from)) (sym s.is) tt
 
 weaker : (P Q : ℕ → Job → ℕ → Type 0) → ((workers : ℕ) (job : Job) (names_from : ℕ) → P workers job names_from → Q workers job names_from) → (command : Command) → IfBatch command P → IfBatch command Q
 weaker P Q f command h = by (batch_of command) h

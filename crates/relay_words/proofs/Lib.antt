@@ -1,7 +1,10 @@
 pub mod BatchLemmas
 pub mod BatchReading
 pub mod KeysLemmas
+pub mod KindLemmas
 pub mod NamesLemmas
 pub mod NumberLemmas
 pub mod RangeLemmas
+pub mod ServeLemmas
+pub mod ServeReading
 pub mod TextsLemmas

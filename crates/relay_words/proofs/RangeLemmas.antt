@@ -125,7 +125,7 @@ words_range (i ∷ []) job e = absurd cc
 words_range (i ∷ o ∷ keys) job e =
     job_range (unwrap_or (framing_of i) Line) (unwrap_or (framing_of o) Line) keys (above (pause_in (keys_among keys)) (keys_among keys).resume) job refl e
 
-in_range : (words : List (List ℕ)) (job : Job) → job_in words ≡ Ok job → IsInRange job
+pub in_range : (words : List (List ℕ)) (job : Job) → job_in words ≡ Ok job → IsInRange job
 in_range words job e = by (misplaced [] words) e
   where
     by : (m : Option ℕ) → ◌≡◌ {A = Result Job ℕ} (elim m [ None ↦ job_behind words | Some at ↦ Err at ]) (Ok job) → IsInRange job
@@ -141,7 +141,7 @@ words_limit (i ∷ o ∷ keys) job e = by (above (pause_in (keys_among keys)) (k
     by None e = sym (ap (λ (j : Job). j.limit) (ok_is _ job e))
     by (Some at) e = absurd cc
 
-limit_is : (words : List (List ℕ)) (job : Job) → job_in words ≡ Ok job → job.limit ≡ 2 ^ 40
+pub limit_is : (words : List (List ℕ)) (job : Job) → job_in words ≡ Ok job → job.limit ≡ 2 ^ 40
 limit_is words job e = by (misplaced [] words) e
   where
     by : (m : Option ℕ) → ◌≡◌ {A = Result Job ℕ} (elim m [ None ↦ job_behind words | Some at ↦ Err at ]) (Ok job) → job.limit ≡ 2 ^ 40
@@ -198,7 +198,7 @@ behind_word (i ∷ o ∷ keys) at e =
     (λ n q. above_word (pause_in (keys_among keys)) (keys_among keys).resume n (3 + length keys) (among_word resume_of 3 keys) q) e in
     omega (arith, below)
 
-word_within : (words : List (List ℕ)) (at : ℕ) → job_in words ≡ Err at → at ≤ 3 + length words
+pub word_within : (words : List (List ℕ)) (at : ℕ) → job_in words ≡ Err at → at ≤ 3 + length words
 word_within words at e = by (misplaced [] words) refl e
   where
     by : (m : Option ℕ) → misplaced [] words ≡ m → ◌≡◌ {A = Result Job ℕ} (elim m [ None ↦ job_behind words | Some at ↦ Err at ]) (Err at) → at ≤ 3 + length words

@@ -6,7 +6,7 @@ use Rattle.frame_grammar.specs.declared.job.Job.{Job}
 use Rattle.relay_words.specs.declared.command.Command.{Command}
 use Rattle.relay_words.specs.declared.command.Command.TheVariants.{Local, Threaded}
 use Rattle.relay_words.specs.declared.command.LocalCommand.TheVariants.{Copy}
-use Rattle.relay_words.specs.declared.command.ThreadedCommand.TheVariants.{Pump, Drill, Batch}
+use Rattle.relay_words.specs.declared.command.ThreadedCommand.TheVariants.{Pump, Drill, Batch, Serve}
 
 -- A relay of lines, with these numbers.
 abbrev pub lines : Framing → ℕ → ℕ → ℕ → ℕ → Job
@@ -23,3 +23,6 @@ drilled_job seed count output max seg pause resume = Ok (Threaded (Drill seed co
 
 abbrev pub batched_job : ℕ → ℕ → Framing → ℕ → ℕ → ℕ → ℕ → Result Command ℕ
 batched_job workers names_from output max seg pause resume = Ok (Threaded (Batch workers (lines output max seg pause resume) names_from))
+
+abbrev pub served_job : ℕ → Framing → ℕ → ℕ → ℕ → ℕ → Result Command ℕ
+served_job count output max seg pause resume = Ok (Threaded (Serve 1 2 count (lines output max seg pause resume)))

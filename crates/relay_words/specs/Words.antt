@@ -1,5 +1,5 @@
 -- Which words are a command.
-use Rattle.std.specs.Prelude.{ℕ, ◌^◌, ◌+◌, Bool, true, not, ◌||◌, List, [], ◌∷◌, ◌++◌, length, take, drop, Option, Some, None, Result, Ok, Err, codes, is_some, map, unwrap_or, IfSome, string_bytes, String, if◌then◌else◌}
+use Rattle.std.specs.Prelude.{ℕ, ◌^◌, ◌+◌, Bool, true, nat_le, not, ◌&&◌, ◌||◌, List, [], ◌∷◌, ◌++◌, length, take, drop, Option, Some, None, Result, Ok, Err, codes, is_some, map, unwrap_or, IfSome, string_bytes, String, if◌then◌else◌}
 use Rattle.std.specs.declared.alloc.Global.{Global}
 use Rattle.std.specs.List.{prefix_len}
 use Rattle.std.specs.Str.{bytes_eq}
@@ -9,7 +9,7 @@ use Rattle.frame_grammar.specs.declared.job.Job.{Job}
 use Rattle.relay_words.specs.declared.command.Command.{Command}
 use Rattle.relay_words.specs.declared.command.Command.TheVariants.{Local, Threaded}
 use Rattle.relay_words.specs.declared.command.LocalCommand.TheVariants.{Copy}
-use Rattle.relay_words.specs.declared.command.ThreadedCommand.TheVariants.{Pump, Drill, Batch}
+use Rattle.relay_words.specs.declared.command.ThreadedCommand.TheVariants.{Pump, Drill, Batch, Serve}
 use Rattle.relay_words.specs.declared.command.Kind.{Kind}
 use Rattle.relay_words.specs.declared.command.Kind.TheVariants as kinds
 use Rattle.relay_words.specs.declared.keys.Keys.{Keys}
@@ -27,6 +27,7 @@ kind_of word =
     else if bytes_eq word (codes "pump") then Some kinds.Pump
     else if bytes_eq word (codes "drill") then Some kinds.Drill
     else if bytes_eq word (codes "batch") then Some kinds.Batch
+    else if bytes_eq word (codes "serve") then Some kinds.Serve
     else None
 
 abbrev pub framing_of : List ℕ → Option Framing
@@ -116,12 +117,47 @@ abbrev pub batch_in : List (List ℕ) → Result Command ℕ
 batch_in [] = Err 1
 batch_in (word ∷ words) = elim (number_within 1 16 word) [ None ↦ Err 1 | Some workers ↦ batch_with workers (relay_part words) (names_part words) ]
 
+-- A word can be an address, by its length alone.
+abbrev pub is_address : List ℕ → Bool
+is_address word = nat_le 1 (length word) && nat_le (length word) 255
+
+-- A server of so many connections. Its job is that of its framings and its keys, which stand behind three more words.
+abbrev pub serve_with : ℕ → Result Job ℕ → Result Command ℕ
+serve_with count (Ok job) = Ok (Threaded (Serve 1 2 count job))
+serve_with count (Err at) = Err (3 + at)
+
+-- The words behind two framings: the number of connections, and keys.
+abbrev pub serve_between : List ℕ → List ℕ → List (List ℕ) → Result Command ℕ
+serve_between input output [] = Err 5
+serve_between input output (word ∷ keys) = elim (number_within 1 1000000 word) [ None ↦ Err 5 | Some count ↦ serve_with count (job_in (input ∷ output ∷ keys)) ]
+
+-- The words behind the first framing.
+abbrev pub serve_into : List ℕ → List (List ℕ) → Result Command ℕ
+serve_into input [] = Err 4
+serve_into input (output ∷ words) = elim (framing_of output) [ None ↦ Err 4 | Some framing ↦ serve_between input output words ]
+
+-- The words behind two addresses.
+abbrev pub serve_from : List (List ℕ) → Result Command ℕ
+serve_from [] = Err 3
+serve_from (input ∷ words) = elim (framing_of input) [ None ↦ Err 3 | Some framing ↦ serve_into input words ]
+
+-- The words behind the address to listen at.
+abbrev pub serve_to : List (List ℕ) → Result Command ℕ
+serve_to [] = Err 2
+serve_to (target ∷ words) = if is_address target then serve_from words else Err 2
+
+-- The words behind `serve`.
+abbrev pub serve_in : List (List ℕ) → Result Command ℕ
+serve_in [] = Err 1
+serve_in (listen ∷ words) = if is_address listen then serve_to words else Err 1
+
 -- The words behind the word of a command.
 abbrev pub command_with : Kind → List (List ℕ) → Result Command ℕ
 command_with kinds.Copy words = elim (job_in words) [ Ok job ↦ Ok (Local (Copy job)) | Err at ↦ Err at ]
 command_with kinds.Pump words = elim (job_in words) [ Ok job ↦ Ok (Threaded (Pump job)) | Err at ↦ Err at ]
 command_with kinds.Drill words = drill_in words
 command_with kinds.Batch words = batch_in words
+command_with kinds.Serve words = serve_in words
 
 -- The command, or the index of the first word that can't be read, or the number of words where one is missing, or the index of a
 -- resume threshold above the pause threshold.
@@ -148,6 +184,7 @@ job_of (Local (Copy job)) = job
 job_of (Threaded (Pump job)) = job
 job_of (Threaded (Drill seed count job)) = job
 job_of (Threaded (Batch workers job names_from)) = job
+job_of (Threaded (Serve listen target count job)) = job
 
 -- How many frames a command makes.
 abbrev pub frames_made : Command → ℕ
@@ -173,3 +210,12 @@ batch_of command = None
 -- This holds of them, where the command is a batch.
 abbrev pub IfBatch : Command → (ℕ → Job → ℕ → Type 0) → Type 0
 IfBatch command P = IfSome (batch_of command) (λ batch. P batch.0 batch.1 batch.2)
+
+-- The indices of the address to listen at and of the target, the number of connections and the job of a server.
+abbrev pub serve_of : Command → Option (ℕ × ℕ × ℕ × Job)
+serve_of (Threaded (Serve listen target count job)) = Some (listen, target, count, job)
+serve_of command = None
+
+-- This holds of them, where the command is a server.
+abbrev pub IfServe : Command → (ℕ → ℕ → ℕ → Job → Type 0) → Type 0
+IfServe command P = IfSome (serve_of command) (λ serve. P serve.0 serve.1 serve.2 serve.3)

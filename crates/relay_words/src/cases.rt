@@ -1,7 +1,7 @@
 //! Worked cases of the definitions, computed by the check. These functions do nothing.
 
 ghost use Rattle.std.specs.Prelude.{◌≡◌, ◌∷◌, [], codes, Some, None, Err};
-ghost use Rattle.relay_words.specs.Cases.{batched_job, drilled_job, line_job, pumped_job};
+ghost use Rattle.relay_words.specs.Cases.{batched_job, drilled_job, line_job, pumped_job, served_job};
 ghost use Rattle.relay_words.specs.Numbers.{number_of};
 ghost use Rattle.relay_words.specs.Words.{command_of};
 
@@ -46,7 +46,6 @@ pub fn word_cases()
     ensures pump { command_of (codes "pump" ∷ codes "line" ∷ codes "len2" ∷ codes "seg=64" ∷ []) ≡ pumped_job Framing.Len2 65536 64 65536 32768 }
     ensures pump_alone { command_of (codes "pump" ∷ []) ≡ Err 1 }
     ensures pumps { command_of (codes "pumps" ∷ codes "line" ∷ codes "len2" ∷ []) ≡ Err 0 }
-    ensures serve { command_of (codes "serve" ∷ codes "2" ∷ []) ≡ Err 0 }
     ensures drill { command_of (codes "drill" ∷ codes "2" ∷ codes "1" ∷ codes "line" ∷ codes "len4" ∷ codes "seg=64" ∷ []) ≡ drilled_job 2 1 Framing.Len4 65536 64 65536 32768 }
     ensures greatest_drill { command_of (codes "drill" ∷ codes "4294967295" ∷ codes "1000000" ∷ codes "line" ∷ codes "len2" ∷ []) ≡ drilled_job 4294967295 1000000 Framing.Len2 65536 4096 65536 32768 }
     ensures seed_too_great { command_of (codes "drill" ∷ codes "4294967296" ∷ codes "1" ∷ codes "line" ∷ codes "len4" ∷ []) ≡ Err 1 }
@@ -75,4 +74,23 @@ pub fn batch_cases()
     ensures batch_of_two { command_of (codes "batch" ∷ codes "2" ∷ codes "line" ∷ codes "len4" ∷ codes "max=9" ∷ codes "a" ∷ codes "max=9" ∷ []) ≡ batched_job 2 5 Framing.Len4 9 4096 65536 32768 }
     ensures name_without_a_number { command_of (codes "batch" ∷ codes "16" ∷ codes "line" ∷ codes "len2" ∷ codes "max" ∷ []) ≡ batched_job 16 4 Framing.Len2 65536 4096 65536 32768 }
     ensures empty_name { command_of (codes "batch" ∷ codes "2" ∷ codes "line" ∷ codes "len4" ∷ [] ∷ []) ≡ Err 4 }
+{}
+
+/// Words of a server.
+pub fn serve_cases()
+    ensures serve_alone { command_of (codes "serve" ∷ []) ≡ Err 1 }
+    ensures serve_nowhere { command_of (codes "serve" ∷ [] ∷ codes "T" ∷ codes "line" ∷ codes "len4" ∷ codes "2" ∷ []) ≡ Err 1 }
+    ensures serve_to_none { command_of (codes "serve" ∷ codes "L" ∷ []) ≡ Err 2 }
+    ensures serve_without_framings { command_of (codes "serve" ∷ codes "L" ∷ codes "T" ∷ []) ≡ Err 3 }
+    ensures serve_of_another_framing { command_of (codes "serve" ∷ codes "L" ∷ codes "T" ∷ codes "foo" ∷ []) ≡ Err 3 }
+    ensures serve_of_one_framing { command_of (codes "serve" ∷ codes "L" ∷ codes "T" ∷ codes "line" ∷ []) ≡ Err 4 }
+    ensures serve_without_count { command_of (codes "serve" ∷ codes "L" ∷ codes "T" ∷ codes "line" ∷ codes "len4" ∷ []) ≡ Err 5 }
+    ensures serve_none { command_of (codes "serve" ∷ codes "L" ∷ codes "T" ∷ codes "line" ∷ codes "len4" ∷ codes "0" ∷ []) ≡ Err 5 }
+    ensures serve_too_many { command_of (codes "serve" ∷ codes "L" ∷ codes "T" ∷ codes "line" ∷ codes "len4" ∷ codes "1000001" ∷ []) ≡ Err 5 }
+    ensures serve_with_another_word { command_of (codes "serve" ∷ codes "L" ∷ codes "T" ∷ codes "line" ∷ codes "len4" ∷ codes "2" ∷ codes "x" ∷ []) ≡ Err 6 }
+    ensures serve_with_a_key_before_count { command_of (codes "serve" ∷ codes "L" ∷ codes "T" ∷ codes "line" ∷ codes "len4" ∷ codes "max=1" ∷ codes "2" ∷ []) ≡ Err 5 }
+    ensures serve_with_a_key_twice { command_of (codes "serve" ∷ codes "L" ∷ codes "T" ∷ codes "line" ∷ codes "len4" ∷ codes "2" ∷ codes "max=1" ∷ codes "max=1" ∷ []) ≡ Err 7 }
+    ensures serve_above_pause { command_of (codes "serve" ∷ codes "L" ∷ codes "T" ∷ codes "line" ∷ codes "len4" ∷ codes "2" ∷ codes "resume=70000" ∷ []) ≡ Err 6 }
+    ensures serve_two { command_of (codes "serve" ∷ codes "L" ∷ codes "T" ∷ codes "line" ∷ codes "len4" ∷ codes "2" ∷ []) ≡ served_job 2 Framing.Len4 65536 4096 65536 32768 }
+    ensures serve_most { command_of (codes "serve" ∷ codes "L" ∷ codes "T" ∷ codes "line" ∷ codes "len2" ∷ codes "1000000" ∷ codes "seg=64" ∷ []) ≡ served_job 1000000 Framing.Len2 65536 64 65536 32768 }
 {}

@@ -40,6 +40,14 @@ pub enum ThreadedCommand {
         job: Job,
         names_from: usize,
     },
+    /// Accepts `count` connections, one after the other, and relays each to a new one. `listen` and `target` are the indices of
+    /// the words with the address to listen at and that to connect to, where the command has the index 0.
+    Serve {
+        listen: usize,
+        target: usize,
+        count: u32,
+        job: Job,
+    },
 }
 
 /// A command without its numbers and its job, as its word names it.
@@ -49,6 +57,7 @@ pub enum Kind {
     Pump,
     Drill,
     Batch,
+    Serve,
 }
 
 /// Words that are no command. `word` is the index, from 0, of the first one that can't be read where it stands, or the

@@ -7,8 +7,9 @@ mod command;
 mod keys;
 mod names;
 mod number;
+mod serve;
 mod words;
 
-pub use cases::{batch_cases, number_cases, word_cases};
+pub use cases::{batch_cases, number_cases, serve_cases, word_cases};
 pub use command::{Command, LocalCommand, ThreadedCommand, Usage};
 pub use words::{is_local, read_local, read_words};

@@ -1,9 +1,9 @@
 //! Reading the words of a command.
 
-ghost use Rattle.std.specs.Prelude.{◌≡◌, ◌<◌, ◌≤◌, ◌+◌, ◌^◌, drop, length, true, IfErr, IfOk, Ok, Err};
+ghost use Rattle.std.specs.Prelude.{◌≡◌, ◌<◌, ◌≤◌, ◌+◌, ◌^◌, ◌∷◌, ℕ, List, Some, drop, length, true, IfErr, IfOk, Ok, Err};
 ghost use Rattle.frame_grammar.specs.Job.{IsInRange};
 ghost use Rattle.relay_words.specs.Keys.{above, number_or as number_or_of, usual_resume as usual_resume_of};
-ghost use Rattle.relay_words.specs.Words.{command_of, command_with, drill_from as drill_from_of, drill_in as drill_in_of, frames_made, framing_of, is_local as is_local_of, is_threaded as is_threaded_of, job_in as job_in_of, job_of, job_with, kind_of, texts, IfBatch};
+ghost use Rattle.relay_words.specs.Words.{command_of, command_with, drill_from as drill_from_of, drill_in as drill_in_of, frames_made, framing_of, is_local as is_local_of, is_threaded as is_threaded_of, job_in as job_in_of, job_of, job_with, kind_of, texts, IfBatch, IfServe};
 ghost use Rattle.relay_words.specs.Names.{AreNames};
 ghost use Rattle.relay_words.specs.declared.command.Command.TheVariants.{Local};
 ghost use Rattle.relay_words.specs.declared.command.Kind.TheVariants as kinds;
@@ -11,6 +11,7 @@ ghost use Rattle.relay_words.specs.declared.command.Kind.TheVariants as kinds;
 use crate::batch::batch_in;
 use crate::command::{Command, Kind, LocalCommand, ThreadedCommand, Usage};
 use crate::keys::{Given, Keys, keys_in, number_within};
+use crate::serve::serve_in;
 use frame_grammar::{Framing, Job};
 
 /// The greatest payload where no key says it, in bytes.
@@ -41,6 +42,8 @@ pub fn read_words(words: &[String]) -> Result<Command, Usage>
     ensures workers { IfOk result (λ command. IfBatch command (λ workers job names_from. (1 ≤ workers) × (workers ≤ 16))) }
     ensures names_from { IfOk result (λ command. IfBatch command (λ workers job names_from. names_from < length words.now)) }
     ensures names { IfOk result (λ command. IfBatch command (λ workers job names_from. AreNames (drop names_from (texts words.now)))) }
+    ensures addresses { IfOk result (λ command. IfServe command (λ listen target count job. (listen ≡ 1) × (target ≡ 2) × (2 < length words.now))) }
+    ensures connections { IfOk result (λ command. IfServe command (λ listen target count job. (1 ≤ count) × (count ≤ 1000000))) }
 {
     match command_in(words) {
         Ok(command) => Ok(command),
@@ -110,6 +113,7 @@ fn command_in(words: &[String]) -> Result<Command, usize>
         Kind::Pump => Ok(Command::Threaded(ThreadedCommand::Pump { job: job_in(rest)? })),
         Kind::Drill => drill_in(rest),
         Kind::Batch => batch_in(rest),
+        Kind::Serve => serve_in(rest),
     }
 }
 
@@ -121,6 +125,7 @@ fn kind(word: &str) -> Option<Kind>
         "pump" => Some(Kind::Pump),
         "drill" => Some(Kind::Drill),
         "batch" => Some(Kind::Batch),
+        "serve" => Some(Kind::Serve),
         _ => None,
     }
 }
@@ -189,7 +194,16 @@ fn read_job(words: &[String]) -> Result<Job, usize>
     let Some(output) = framing(output.as_str()) else {
         return Err(2);
     };
-    let keys = keys_in(keys, words.len() + 1)?;
+    job_of_keys(input, output, keys)
+}
+
+/// The job of two framings and the keys behind them, or the index of the word that can't be read, where the first key has the
+/// index 3.
+pub(crate) fn job_of_keys(input: Framing, output: Framing, keys: &[String]) -> Result<Job, usize>
+    ensures { (first second : List ℕ) → Some input ≡ framing_of first → Some output ≡ framing_of second →
+        result ≡ job_in_of (first ∷ second ∷ texts keys.now) }
+{
+    let keys = keys_in(keys, keys.len() + 3)?;
     job(input, output, keys)
 }
 
