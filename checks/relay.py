@@ -85,7 +85,7 @@ def random_cases(count):
 
 def wrong_words():
     cases = [
-        ([], 0), (["Copy", "len4", "line"], 0), (["drill"], 1), (["drill", "4294967296", "1", "line", "len4"], 1), (["serve"], 0), (["batch"], 1), (["batch", "0", "line", "len4", "a"], 1), (["batch", "2", "line", "len4"], 4), (["batch", "2", "line", "len4", "a", "a"], 5), (["batch", "2", "line", "len4", "a.out"], 4), (["--help", "x"], 0), (["--verbose"], 0), (["copy"], 1), (["copy", "len4"], 2), (["pump"], 1), (["pump", "len4"], 2),
+        ([], 0), (["Copy", "len4", "line"], 0), (["drill"], 1), (["drill", "4294967296", "1", "line", "len4"], 1), (["serve"], 1), (["serve", "L", "T", "line", "len4"], 5), (["serve", "L", "T", "line", "len4", "0"], 5), (["batch"], 1), (["batch", "0", "line", "len4", "a"], 1), (["batch", "2", "line", "len4"], 4), (["batch", "2", "line", "len4", "a", "a"], 5), (["batch", "2", "line", "len4", "a.out"], 4), (["--help", "x"], 0), (["--verbose"], 0), (["copy"], 1), (["copy", "len4"], 2), (["pump"], 1), (["pump", "len4"], 2),
         (["copy", "len4", "lines"], 2), ([*COPY, "x"], 3), ([*COPY, "max=01"], 3), ([*COPY, "max=268435456"], 3),
         (["pump", "len4", "foo"], 2), (["pump", "line", "len4", "max=1", "max=1"], 4), (["drill", "len4", "line"], 1),
         (["drill", "1", "1000001", "line", "len4"], 2), (["drill", "1", "1", "line", "len4", "x"], 5),
@@ -98,7 +98,7 @@ def wrong_words():
 
 def help_and_version():
     output, status, line = run(["--help"], [])
-    check("--help", (b"relay copy" in output and b"relay pump" in output and b"relay drill" in output and b"relay batch" in output, status, line), (True, 0, b""))
+    check("--help", (b"relay copy" in output and b"relay pump" in output and b"relay drill" in output and b"relay batch" in output and b"relay serve" in output, status, line), (True, 0, b""))
     output, status, line = run(["--version"], [])
     check("--version", (output.startswith(b"relay "), status, line), (True, 0, b""))
     with open("/dev/full", "wb") as full:

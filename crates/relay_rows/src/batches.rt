@@ -3,7 +3,7 @@
 ghost use Rattle.std.specs.Prelude.{◌≡◌, IfOk};
 ghost use Rattle.edge_core.specs.MemDoors.{IsFresh, name_of};
 
-use crate::case::{Devices, Wanted, are_unread, command_with, does, fails_next, unread_devices};
+use crate::case::{Devices, Opening, Wanted, fails_next, opens};
 use edge_core::{MemDoors, MemSink, MemSource};
 use std::alloc::{AllocError, Global};
 use std::sync::Wait;
@@ -95,32 +95,23 @@ fn doors_of(alloc: Global, case: &Batch<'_>) -> Result<MemDoors, AllocError> {
     )
 }
 
-/// Whether these sinks have taken these bytes.
-fn hold(sinks: &[MemSink], bytes: &[&[u8]]) -> bool {
-    sinks.len() == bytes.len()
-        && sinks
-            .iter()
-            .zip(bytes)
-            .all(|(sink, bytes)| sink.bytes() == *bytes)
-}
-
 /// Whether the command does what the case says, and reads nothing of its source; and its devices then.
 fn run<R: Wait + Threads + Sync>(
     rt: &R,
     alloc: Global,
     case: &Batch<'_>,
 ) -> Result<(bool, Devices), AllocError> {
-    let words = command_with(alloc, "batch", case.words)?;
-    let mut devices = unread_devices(alloc, 64, case.fails, doors_of(alloc, case)?)?;
-    let wanted = Wanted {
-        output: case.output,
-        status: case.status,
-        line: case.line,
+    let opening = Opening {
+        words: case.words,
+        fails: case.fails,
+        outlets: case.outlets,
+        wanted: Wanted {
+            output: case.output,
+            status: case.status,
+            line: case.line,
+        },
     };
-    let is_done = does(rt, alloc, words.as_slice(), &mut devices, &wanted);
-    let is_unread = are_unread(&mut devices);
-    let has_outlets = hold(devices.doors.outlets(), case.outlets);
-    Ok((is_done && is_unread && has_outlets, devices))
+    opens(rt, alloc, "batch", &opening, doors_of(alloc, case)?)
 }
 
 fn holds<R: Wait + Threads + Sync>(

@@ -134,6 +134,41 @@ pub fn are_unread(devices: &mut Devices) -> bool {
     gives(&mut devices.source, UNREAD.len())
 }
 
+/// Whether these sinks have taken these bytes.
+fn hold(sinks: &[MemSink], bytes: &[&[u8]]) -> bool {
+    sinks.len() == bytes.len()
+        && sinks
+            .iter()
+            .zip(bytes)
+            .all(|(sink, bytes)| sink.bytes() == *bytes)
+}
+
+/// A command that opens its devices: its words, which calls of its sink fail, and what is to come out: the bytes of each sink that
+/// came back, in their order, and the rest.
+#[derive(Clone, Copy)]
+pub struct Opening<'a> {
+    pub words: &'a [&'a str],
+    pub fails: &'a [u64],
+    pub outlets: &'a [&'a [u8]],
+    pub wanted: Wanted<'a>,
+}
+
+/// Whether a command over these doors does what is wanted, and reads nothing of its source; and its devices then.
+pub fn opens<R: Wait + Threads + Sync>(
+    rt: &R,
+    alloc: Global,
+    command: &str,
+    case: &Opening<'_>,
+    doors: MemDoors,
+) -> Result<(bool, Devices), AllocError> {
+    let words = command_with(alloc, command, case.words)?;
+    let mut devices = unread_devices(alloc, 64, case.fails, doors)?;
+    let is_done = does(rt, alloc, words.as_slice(), &mut devices, &case.wanted);
+    let is_unread = are_unread(&mut devices);
+    let has_outlets = hold(devices.doors.outlets(), case.outlets);
+    Ok((is_done && is_unread && has_outlets, devices))
+}
+
 /// The exit status of a command, if there are few enough words. Only here does the check meet the long contract of `relay_main`.
 fn run<R: Wait + Threads + Sync>(
     rt: &R,

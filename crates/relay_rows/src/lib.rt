@@ -6,6 +6,8 @@ mod batches;
 #[cfg(test)]
 mod case;
 #[cfg(test)]
+mod connections;
+#[cfg(test)]
 mod drills;
 #[cfg(test)]
 mod held;

@@ -14,20 +14,19 @@ use Rattle.relay_model.specs.Run.{HasCause, IsReported, RelaysAll, StopsInTime, 
 use Rattle.relay_model.specs.World.{TellsOnly, World}
 use Rattle.relay_model.proofs.AnswerLemmas.{not_usage, of_relay, untouched}
 use Rattle.relay_top.specs.Batch.{Batches}
-use Rattle.relay_top.specs.Commands.{Copies, Does, IfCopy, IfDrill, IfRelay, IsCausedAs, IsWholeAs, RunsAs, TranslatesAs, Unless, UnlessBatch}
+use Rattle.relay_top.specs.Commands.{Copies, Does, IfCopy, IfDrill, IfRelay, IsCausedAs, IsWholeAs, RunsAs, TranslatesAs, UnlessOpens}
 use Rattle.relay_top.specs.Drill.{Drills}
-use Rattle.relay_top.proofs.BatchCauseLemmas.{Caused, Translated, WholeWhereClean, batch_caused, batch_reads_nothing, batch_translated, batch_whole}
+use Rattle.relay_top.proofs.BatchCauseLemmas.{batch_caused, batch_reads_nothing, batch_translated, batch_whole}
 use Rattle.relay_top.proofs.DrillLemmas.{drill_caused, drill_keeps, drill_untouched, drill_whole}
-use Rattle.relay_words.specs.Words.{IfBatch, batch_of, job_of, texts}
+use Rattle.relay_top.proofs.OpenedLemmas.{Caused, Translated, WholeWhereClean}
+use Rattle.relay_top.proofs.ServeCauseLemmas.{serve_caused, serve_translated, serve_whole}
+use Rattle.relay_top.specs.Serving.{ServesAt, word_at}
+use Rattle.relay_words.specs.Words.{IfBatch, IfServe, job_of, texts}
 use Rattle.relay_words.specs.declared.command.Command.{Command}
 use Rattle.relay_words.specs.declared.command.Command.TheVariants.{Local, Threaded}
 use Rattle.relay_words.specs.declared.command.LocalCommand.{LocalCommand}
 use Rattle.relay_words.specs.declared.command.LocalCommand.TheVariants.{Copy}
-use Rattle.relay_words.specs.declared.command.ThreadedCommand.TheVariants.{Pump, Drill, Batch}
-
-unless : {A : Type 0} (P Q : Type 0) (o : Option A) → (P → Q) → Unless o P → Unless o Q
-unless P Q None f p = f p
-unless P Q (Some it) f p = tt
+use Rattle.relay_words.specs.declared.command.ThreadedCommand.TheVariants.{Pump, Drill, Batch, Serve}
 
 module _ (words : List (List ℕ)) (status : Status) (was is : World) where
   pub copies : (command : LocalCommand) → Copies (job_of (Local command)) status was is → Does words (Local command) status was is
@@ -44,6 +43,7 @@ module _ (words : List (List ℕ)) (status : Status) (was is : World) where
   translated law (Ok (Threaded (Pump job))) relays = of_relay (λ job status sb sa kb ka. TranslatesAll job sb sa kb ka) law job status was is relays
   translated law (Ok (Threaded (Drill seed count job))) drills = tt
   translated law (Ok (Threaded (Batch workers job names_from))) batches = batch_translated law (drop names_from words) names_from job status was is batches
+  translated law (Ok (Threaded (Serve listen target count job))) serves = serve_translated (word_at target words) count job status was is law serves
 
   of_clean : WholeWhereClean → (job : Job) → Relays job status was is → status ≡ exit.Clean → RelaysAll job was.source is.source was.sink is.sink
   of_clean law job relays clean = of_relay (λ job status sb sa kb ka. status ≡ exit.Clean → RelaysAll job sb sa kb ka) law job status was is relays (λ memory. cc) clean
@@ -54,6 +54,7 @@ module _ (words : List (List ℕ)) (status : Status) (was is : World) where
   whole law (Ok (Threaded (Pump job))) relays clean = of_clean law job relays clean
   whole law (Ok (Threaded (Drill seed count job))) drills clean = drill_whole seed count job status was is drills clean
   whole law (Ok (Threaded (Batch workers job names_from))) batches clean = batch_whole law (drop names_from words) names_from job status was is batches clean
+  whole law (Ok (Threaded (Serve listen target count job))) serves clean = serve_whole (word_at target words) count job status was is law serves clean
 
   pub caused : Caused → (asked : Result Command ℕ) → Ran asked → IfOk asked (λ command. IsCausedAs command status was is)
   caused law (Err word) refuses = tt
@@ -61,6 +62,7 @@ module _ (words : List (List ℕ)) (status : Status) (was is : World) where
   caused law (Ok (Threaded (Pump job))) relays = of_relay (λ job status sb sa kb ka. HasCause status sb sa kb ka) law job status was is relays
   caused law (Ok (Threaded (Drill seed count job))) drills = drill_caused seed count job status was is drills
   caused law (Ok (Threaded (Batch workers job names_from))) batches = batch_caused law (drop names_from words) names_from job status was is batches
+  caused law (Ok (Threaded (Serve listen target count job))) serves = serve_caused (word_at target words) count job status was is law serves
 
   -- ---- what is as it was
 
@@ -72,6 +74,7 @@ module _ (words : List (List ℕ)) (status : Status) (was is : World) where
     | inr others ↦ elim others [ inl bad ↦ cc | inr more ↦ elim more [ inl failed ↦ cc | inr memory ↦ cc ] ]
   ]
   no_usage law (Threaded (Batch workers job names_from)) batches = (batch_caused law (drop names_from words) names_from job status was is batches).few
+  no_usage law (Threaded (Serve listen target count job)) serves = (serve_caused (word_at target words) count job status was is law serves).few
 
   pub usage : Caused → (asked : Result Command ℕ) → Ran asked → (status ≡ exit.Usage) ↔ IsErr asked
   usage law (Err word) refuses = (λ is_usage. refl, λ failed. refuses.ended)
@@ -86,33 +89,33 @@ module _ (words : List (List ℕ)) (status : Status) (was is : World) where
   told_only law (Err word) refuses is_usage = (word, refuses.tells)
   told_only law (Ok command) does is_usage = absurd (no_usage law command does is_usage)
 
-  pub without_memory : (command : Command) → Does words command status was is → status ≡ exit.OutOfMemory → UnlessBatch command (TellsOnly memory_line was is)
-  without_memory (Local (Copy job)) relays memory = untouched job status was is relays.relays memory
-  without_memory (Threaded (Pump job)) relays memory = untouched job status was is relays memory
-  without_memory (Threaded (Drill seed count job)) drills memory = drill_untouched seed count job status was is drills memory
-  without_memory (Threaded (Batch workers job names_from)) batches memory = tt
-
-  pub memory_unless : (P : Type 0) → (TellsOnly memory_line was is → P) → (asked : Result Command ℕ) → Ran asked → status ≡ exit.OutOfMemory → IfOk asked (λ command. UnlessBatch command P)
+  pub memory_unless : (P : Type 0) → (TellsOnly memory_line was is → P) → (asked : Result Command ℕ) → Ran asked → status ≡ exit.OutOfMemory → IfOk asked (λ command. UnlessOpens command P)
   memory_unless P f (Err word) refuses memory = tt
-  memory_unless P f (Ok command) does memory = unless (TellsOnly memory_line was is) P (batch_of command) f (without_memory command does memory)
+  memory_unless P f (Ok (Local (Copy job))) relays memory = f (untouched job status was is relays.relays memory)
+  memory_unless P f (Ok (Threaded (Pump job))) relays memory = f (untouched job status was is relays memory)
+  memory_unless P f (Ok (Threaded (Drill seed count job))) drills memory = f (drill_untouched seed count job status was is drills memory)
+  memory_unless P f (Ok (Threaded (Batch workers job names_from))) batches memory = tt
+  memory_unless P f (Ok (Threaded (Serve listen target count job))) serves memory = tt
 
   keeps_source : (command : Command) → Does words command status was is → status ≡ exit.OutOfMemory → is.source ≡ was.source
   keeps_source (Local (Copy job)) relays memory = (untouched job status was is relays.relays memory).tells.source
   keeps_source (Threaded (Pump job)) relays memory = (untouched job status was is relays memory).tells.source
   keeps_source (Threaded (Drill seed count job)) drills memory = (drill_keeps seed count job status was is drills).source
   keeps_source (Threaded (Batch workers job names_from)) batches memory = batch_reads_nothing (drop names_from words) names_from job status was is batches
+  keeps_source (Threaded (Serve listen target count job)) serves memory = serves.source
 
   pub source_untouched : Caused → (asked : Result Command ℕ) → Ran asked → (status ≡ exit.Usage) ⊎ (status ≡ exit.OutOfMemory) → is.source ≡ was.source
   source_untouched law asked ran (inl is_usage) = (told_only law asked ran is_usage).1.tells.source
   source_untouched law (Err word) refuses (inr memory) = refuses.tells.tells.source
   source_untouched law (Ok command) does (inr memory) = keeps_source command does memory
 
-  pub doors_untouched : (asked : Result Command ℕ) → Ran asked → IfOk asked (λ command. UnlessBatch command (is.doors ≡ was.doors))
+  pub doors_untouched : (asked : Result Command ℕ) → Ran asked → IfOk asked (λ command. UnlessOpens command (is.doors ≡ was.doors))
   doors_untouched (Err word) refuses = tt
   doors_untouched (Ok (Local (Copy job))) relays = relays.relays.doors
   doors_untouched (Ok (Threaded (Pump job))) relays = relays.doors
   doors_untouched (Ok (Threaded (Drill seed count job))) drills = (drill_keeps seed count job status was is drills).doors
   doors_untouched (Ok (Threaded (Batch workers job names_from))) batches = tt
+  doors_untouched (Ok (Threaded (Serve listen target count job))) serves = tt
 
   -- ---- of some commands alone
 
@@ -122,6 +125,7 @@ module _ (words : List (List ℕ)) (status : Status) (was is : World) where
   relay_at P so (Ok (Threaded (Pump job))) relays = so job relays
   relay_at P so (Ok (Threaded (Drill seed count job))) drills = tt
   relay_at P so (Ok (Threaded (Batch workers job names_from))) batches = tt
+  relay_at P so (Ok (Threaded (Serve listen target count job))) serves = tt
 
   pub copy_in_time : (asked : Result Command ℕ) → Ran asked → IfOk asked (λ command. IfCopy command (λ job. StopsInTime job was.source is.source))
   copy_in_time (Err word) refuses = tt
@@ -134,6 +138,7 @@ module _ (words : List (List ℕ)) (status : Status) (was is : World) where
   drill_at P so (Ok (Threaded (Pump job))) relays = tt
   drill_at P so (Ok (Threaded (Drill seed count job))) drills = so seed count job drills
   drill_at P so (Ok (Threaded (Batch workers job names_from))) batches = tt
+  drill_at P so (Ok (Threaded (Serve listen target count job))) serves = tt
 
   pub batch_at : (P : ℕ → Job → ℕ → Type 0) → ((workers : ℕ) (job : Job) (names_from : ℕ) → Batches (drop names_from words) names_from job status was is → P workers job names_from)
       → (asked : Result Command ℕ) → Ran asked → IfOk asked (λ command. IfBatch command P)
@@ -142,6 +147,16 @@ module _ (words : List (List ℕ)) (status : Status) (was is : World) where
   batch_at P so (Ok (Threaded (Pump job))) relays = tt
   batch_at P so (Ok (Threaded (Drill seed count job))) drills = tt
   batch_at P so (Ok (Threaded (Batch workers job names_from))) batches = so workers job names_from batches
+  batch_at P so (Ok (Threaded (Serve listen target count job))) serves = tt
+
+  pub serve_at : (P : ℕ → ℕ → ℕ → Job → Type 0) → ((listen target count : ℕ) (job : Job) → ServesAt (word_at target words) count job status was is → P listen target count job)
+      → (asked : Result Command ℕ) → Ran asked → IfOk asked (λ command. IfServe command P)
+  serve_at P so (Err word) refuses = tt
+  serve_at P so (Ok (Local (Copy job))) relays = tt
+  serve_at P so (Ok (Threaded (Pump job))) relays = tt
+  serve_at P so (Ok (Threaded (Drill seed count job))) drills = tt
+  serve_at P so (Ok (Threaded (Batch workers job names_from))) batches = tt
+  serve_at P so (Ok (Threaded (Serve listen target count job))) serves = so listen target count job serves
 
 -- ---- the names among the words
 

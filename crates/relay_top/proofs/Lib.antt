@@ -3,4 +3,7 @@ mod BatchLemmas
 mod CommandLemmas
 mod DrillLemmas
 mod NameLemmas
+mod OpenedLemmas
 mod OpeningLemmas
+mod ServeCauseLemmas
+mod ServingLemmas

@@ -161,9 +161,7 @@ fn run_threaded<R: Wait + Threads + Sync, S: Source + Send, K: Sink + Send, E: S
             job,
         } => {
             let (listen, target) = (words[listen].as_str(), words[target].as_str());
-            serve(
-                rt, alloc, listen, target, count, &job, sink, faults, doors,
-            )
+            serve(rt, alloc, listen, target, count, &job, sink, faults, doors)
         }
     }
 }
