@@ -10,6 +10,8 @@ mod batching;
 mod pumping;
 mod returning;
 mod serve_end;
+#[cfg(test)]
+mod serve_tests;
 mod serving;
 mod summary;
 mod telling;
