@@ -37,9 +37,9 @@ def check(name, got, wanted):
         failures.append(f"{name}: got {got!r:.300}, wanted {wanted!r:.300}")
 
 
-def start(words, **streams):
+def start(words, tracer=(), **streams):
     """A program that runs, for SECONDS until the next one is started."""
-    program = subprocess.Popen([PROGRAM, *words], **{"stderr": subprocess.PIPE, **streams})
+    program = subprocess.Popen([*tracer, PROGRAM, *words], **{"stderr": subprocess.PIPE, **streams})
     started.append(program)
     signal.alarm(SECONDS)
     return program
