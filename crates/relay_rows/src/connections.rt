@@ -46,25 +46,19 @@ const USUAL: Serve<'static> = Serve {
 };
 
 /// The same where an opening is refused before the first connection was relayed.
-fn refused<'a>(failing_openings: &'a [u64], line: &'a [u8]) -> Serve<'a> {
-    Serve {
-        failing_openings,
-        outlets: &[],
-        output: b"",
-        status: 8,
-        line,
-        ..USUAL
-    }
-}
+const REFUSED: Serve<'static> = Serve {
+    outlets: &[],
+    output: b"",
+    status: 8,
+    ..USUAL
+};
 
 /// The same where one is refused behind it.
-fn cut_off<'a>(failing_openings: &'a [u64], line: &'a [u8]) -> Serve<'a> {
-    Serve {
-        outlets: &[b"hi\n"],
-        output: b"1 0 1\n",
-        ..refused(failing_openings, line)
-    }
-}
+const CUT_OFF: Serve<'static> = Serve {
+    outlets: &[b"hi\n"],
+    output: b"1 0 1\n",
+    ..REFUSED
+};
 
 fn source_of(content: Vec<u8>, cuts: Vec<usize>, fails: Vec<u64>) -> MemSource
     ensures fresh { IsFreshSource result }
@@ -123,129 +117,155 @@ fn holds<R: Wait + Threads + Sync>(
     Ok(holds)
 }
 
-// The openings are listening, and then accepting and connecting for each connection. Each line is a write of the sink, and the
-// flush behind them its last call.
+/// The openings are listening, and then accepting and connecting for each connection. Each line is a write of the sink, and the
+/// flush behind them its last call.
+const CASES: [Serve<'static>; 17] = [
+    USUAL,
+    Serve {
+        words: &["L", "T", "len4", "line", "1", "seg=64"],
+        outlets: &[b"hi\n"],
+        output: b"1 0 1\n",
+        ..USUAL
+    },
+    // There is no third connection.
+    Serve {
+        words: &["L", "T", "len4", "line", "3"],
+        status: 8,
+        line: b"door fault at word 1\n",
+        ..USUAL
+    },
+    Serve {
+        failing_openings: &[1],
+        line: b"door fault at word 1\n",
+        ..REFUSED
+    },
+    Serve {
+        failing_openings: &[2],
+        line: b"door fault at word 1\n",
+        ..REFUSED
+    },
+    Serve {
+        failing_openings: &[3],
+        line: b"door fault at word 2\n",
+        ..REFUSED
+    },
+    Serve {
+        failing_openings: &[4],
+        line: b"door fault at word 1\n",
+        ..CUT_OFF
+    },
+    Serve {
+        failing_openings: &[5],
+        line: b"door fault at word 2\n",
+        ..CUT_OFF
+    },
+    Serve {
+        failing_reads: &[1],
+        outlets: &[b"", b"hi\n"],
+        output: b"1 4 0\n2 0 1\n",
+        status: 4,
+        line: b"1: read fault after 0\n",
+        ..USUAL
+    },
+    Serve {
+        failing_writes: &[1],
+        outlets: &[b"", b"hi\n"],
+        output: b"1 5 0\n2 0 1\n",
+        status: 5,
+        line: b"1: write fault after 0\n",
+        ..USUAL
+    },
+    // The status and the line are those of the first connection that failed, and not of the last one.
+    Serve {
+        contents: [&[0, 0, 0, 3, b'h', b'i', b'!'], &[0, 0, 0, 5, b'h']],
+        words: &["L", "T", "len4", "line", "2", "max=2"],
+        outlets: &[b"", b""],
+        output: b"1 2 0\n2 2 0\n",
+        status: 2,
+        line: b"1: bad frame at 0: length 3\n",
+        ..USUAL
+    },
+    Serve {
+        contents: [HI, &[0, 0, 0, 5, b'h']],
+        outlets: &[b"hi\n", b""],
+        output: b"1 0 1\n2 3 0\n",
+        status: 3,
+        line: b"2: truncated at 0\n",
+        ..USUAL
+    },
+    Serve {
+        fails: &[1],
+        outlets: &[b"hi\n"],
+        output: b"",
+        status: 5,
+        line: b"write fault after 0\n",
+        ..USUAL
+    },
+    Serve {
+        fails: &[2],
+        output: b"1 0 1\n",
+        status: 5,
+        line: b"write fault after 6\n",
+        ..USUAL
+    },
+    Serve {
+        fails: &[3],
+        status: 5,
+        line: b"write fault after 12\n",
+        ..USUAL
+    },
+    Serve {
+        fails: &[4],
+        ..USUAL
+    },
+    Serve {
+        words: &["L", "T", "len4", "line", "0"],
+        outlets: &[],
+        output: b"",
+        status: 1,
+        line: b"usage: word 5\n",
+        ..USUAL
+    },
+];
+
 #[test]
 fn each_connection_has_its_line_or_a_fault_is_told(rt: HostRuntime) -> Result<(), Fail> {
     let alloc = rt.alloc();
-    let cases = [
-        USUAL,
-        Serve {
-            words: &["L", "T", "len4", "line", "1", "seg=64"],
-            outlets: &[b"hi\n"],
-            output: b"1 0 1\n",
-            ..USUAL
-        },
-        // There is no third connection.
-        Serve {
-            words: &["L", "T", "len4", "line", "3"],
-            status: 8,
-            line: b"door fault at word 1\n",
-            ..USUAL
-        },
-        refused(&[1], b"door fault at word 1\n"),
-        refused(&[2], b"door fault at word 1\n"),
-        refused(&[3], b"door fault at word 2\n"),
-        cut_off(&[4], b"door fault at word 1\n"),
-        cut_off(&[5], b"door fault at word 2\n"),
-        Serve {
-            failing_reads: &[1],
-            outlets: &[b"", b"hi\n"],
-            output: b"1 4 0\n2 0 1\n",
-            status: 4,
-            line: b"1: read fault after 0\n",
-            ..USUAL
-        },
-        Serve {
-            failing_writes: &[1],
-            outlets: &[b"", b"hi\n"],
-            output: b"1 5 0\n2 0 1\n",
-            status: 5,
-            line: b"1: write fault after 0\n",
-            ..USUAL
-        },
-        // The status and the line are those of the first connection that failed, and not of the last one.
-        Serve {
-            contents: [&[0, 0, 0, 3, b'h', b'i', b'!'], &[0, 0, 0, 5, b'h']],
-            words: &["L", "T", "len4", "line", "2", "max=2"],
-            outlets: &[b"", b""],
-            output: b"1 2 0\n2 2 0\n",
-            status: 2,
-            line: b"1: bad frame at 0: length 3\n",
-            ..USUAL
-        },
-        Serve {
-            contents: [HI, &[0, 0, 0, 5, b'h']],
-            outlets: &[b"hi\n", b""],
-            output: b"1 0 1\n2 3 0\n",
-            status: 3,
-            line: b"2: truncated at 0\n",
-            ..USUAL
-        },
-        Serve {
-            fails: &[1],
-            outlets: &[b"hi\n"],
-            output: b"",
-            status: 5,
-            line: b"write fault after 0\n",
-            ..USUAL
-        },
-        Serve {
-            fails: &[2],
-            output: b"1 0 1\n",
-            status: 5,
-            line: b"write fault after 6\n",
-            ..USUAL
-        },
-        Serve {
-            fails: &[3],
-            status: 5,
-            line: b"write fault after 12\n",
-            ..USUAL
-        },
-        Serve {
-            fails: &[4],
-            ..USUAL
-        },
-        Serve {
-            words: &["L", "T", "len4", "line", "0"],
-            outlets: &[],
-            output: b"",
-            status: 1,
-            line: b"usage: word 5\n",
-            ..USUAL
-        },
-    ];
-    for case in &cases {
+    for case in &CASES {
         assert!(rt; holds(&rt, alloc, case)?);
     }
     Ok(())
 }
 
-// Behind a refused opening and a failed line nothing is flushed: the call that fails next is the first that the command didn't
-// make.
+/// Behind a refused opening and a failed line nothing is flushed: the call that fails next is the first that the command didn't
+/// make.
+const FAULTS: [Serve<'static>; 3] = [
+    Serve {
+        fails: &[1],
+        failing_openings: &[1],
+        line: b"door fault at word 1\n",
+        ..REFUSED
+    },
+    Serve {
+        fails: &[2],
+        failing_openings: &[4],
+        line: b"door fault at word 1\n",
+        ..CUT_OFF
+    },
+    Serve {
+        fails: &[1, 2],
+        outlets: &[b"hi\n"],
+        output: b"",
+        status: 5,
+        line: b"write fault after 0\n",
+        ..USUAL
+    },
+];
+
 #[test]
 fn the_sink_is_not_flushed_behind_a_fault(rt: HostRuntime) -> Result<(), Fail> {
     let alloc = rt.alloc();
-    let cases = [
-        Serve {
-            fails: &[1],
-            ..refused(&[1], b"door fault at word 1\n")
-        },
-        Serve {
-            fails: &[2],
-            ..cut_off(&[4], b"door fault at word 1\n")
-        },
-        Serve {
-            fails: &[1, 2],
-            outlets: &[b"hi\n"],
-            output: b"",
-            status: 5,
-            line: b"write fault after 0\n",
-            ..USUAL
-        },
-    ];
-    for case in &cases {
+    for case in &FAULTS {
         let (holds, mut devices) = run(&rt, alloc, case)?;
         assert!(rt; holds && fails_next(&mut devices));
     }
